@@ -1,0 +1,16 @@
+-- When one table grows from another, on tables.
+--
+--   Grows t u   == u grows from t
+--   NewLines    == whether u has lines that t has not is read off the two lists of lines
+use mathlib.Core.Path.{_≡_}
+use mathlib.Core.List.{List, _++_}
+use Prim.Native.Nat.{ℕ, _≤_}
+use Rattle.el.specs.Table.{Row, Line, Table}
+
+-- "each of its counts c, r, v, e, m is at least the other's, and the other's rows and lines stand first among its own, in order"
+pub record Grows (t u : Table) : Type 0 where
+  pub constants : t .constants ≤ u .constants
+  pub roles : t .roles ≤ u .roles
+  pub variables : t .variables ≤ u .variables
+  pub rows : (more : List Row) × (u .rows ≡ t .rows ++ more)
+  pub lines : (more : List Line) × (u .lines ≡ t .lines ++ more)

@@ -1,0 +1,1 @@
+// What the logic says: definitions and laws in specs/, and no code.

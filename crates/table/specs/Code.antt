@@ -1,0 +1,47 @@
+-- What a code byte stands for.
+--
+--   kindOf b             == the kind of the code b by its range, with its number k
+--   fillerOf c v b       == the filler that the code b writes, where it is allowed and declared
+--   entryOf c e v b      == the entry that the code b writes, where it is allowed and declared
+use mathlib.Core.Bool.{Bool, true, false, _&&_, cond}
+use mathlib.Core.Option.{Option, none, some}
+use Prim.Native.Nat.{ℕ, _-_}
+use lib.Dec.{eqb, leb, ltb}
+use Rattle.el.specs.Table.{Filler, topF, constantF, variableF, Entry, constant, restriction, variable}
+use Rattle.table.specs.declared.Kind.{Kind}
+use Rattle.table.specs.declared.Kind.the-variants.{Top, Constant, Restriction, Variable, Other}
+
+-- "Codes fall in four ranges, and any other value is refused: 0x00 top; 0x20+k constant k; 0x40+k restriction k; 0x60+k variable k"
+unfoldable pub kindOf : ℕ → Kind
+kindOf b =
+    cond (eqb b 0) Top
+    (cond (leb 0x20 b && leb b 0x3F) (Constant (b - 0x20))
+    (cond (leb 0x40 b && leb b 0x5F) (Restriction (b - 0x40))
+    (cond (leb 0x60 b) (Variable (b - 0x60))
+    Other)))
+
+-- "k < c", "k < e", "k < v"
+unfoldable pub within {ℓ} : {A : Type ℓ} → ℕ → ℕ → A → Option A
+within k n a = cond (ltb k n) (some a) none
+
+-- "A filler is top, a constant or a variable."
+unfoldable pub fillerOfKind : ℕ → ℕ → Kind → Option Filler
+fillerOfKind c v Top = some topF
+fillerOfKind c v (Constant k) = within k c (constantF k)
+fillerOfKind c v (Restriction k) = none
+fillerOfKind c v (Variable k) = within k v (variableF k)
+fillerOfKind c v Other = none
+
+unfoldable pub fillerOf : ℕ → ℕ → ℕ → Option Filler
+fillerOf c v b = fillerOfKind c v (kindOf b)
+
+-- "A left or right entry is a constant, a restriction or a variable. Top is allowed as a filler only"
+unfoldable pub entryOfKind : ℕ → ℕ → ℕ → Kind → Option Entry
+entryOfKind c e v Top = none
+entryOfKind c e v (Constant k) = within k c (constant k)
+entryOfKind c e v (Restriction k) = within k e (restriction k)
+entryOfKind c e v (Variable k) = within k v (variable k)
+entryOfKind c e v Other = none
+
+unfoldable pub entryOf : ℕ → ℕ → ℕ → ℕ → Option Entry
+entryOf c e v b = entryOfKind c e v (kindOf b)

@@ -1,0 +1,161 @@
+-- What a list of bytes says: a refusal with its number and place, or a table.
+--
+--   maxAtoms, maxRoles, maxVariables, maxLines, maxLeft == the bounds 24, 16, 12, 64, 8
+--   Read A               == a refusal (number, place), or something read and the place after it
+--   refuseIf t n p x     == the refusal n at p where the test t passes, else x
+--   byteAt s i           == byte i
+--   missing s i          == there is no byte i
+--   Header               == the five counts
+--   readHeader s         == bytes 0 to 9
+--   readRows s h k at    == k restriction rows from the byte `at` on
+--   readEntries s h k at == k entries from the byte `at` on
+--   readLine s h at      == the line that begins at the byte `at`
+--   readLines s h k at   == k lines from the byte `at` on
+--   Reading, reading s   == the whole
+use mathlib.Core.Bool.{Bool, true, false, _&&_, not}
+use mathlib.Core.List.{List, [], _∷_}
+use mathlib.Core.Option.{Option, none, some}
+use Prim.Native.Nat.{ℕ, zero, suc, _+_}
+use lib.Dec.{eqb, leb, ltb}
+use lib.ListN.{length, getD}
+use Rattle.el.specs.Table.{Filler, Entry, Row, Line, Table}
+use Rattle.table.specs.Code.{fillerOf, entryOf}
+
+-- "Bounds: c + e at most 24, r at most 16, v at most 12, m at most 64, p at most 8."
+abbrev pub maxAtoms : ℕ
+maxAtoms = 24
+
+abbrev pub maxRoles : ℕ
+maxRoles = 16
+
+abbrev pub maxVariables : ℕ
+maxVariables = 12
+
+abbrev pub maxLines : ℕ
+maxLines = 64
+
+abbrev pub maxLeft : ℕ
+maxLeft = 8
+
+pub data Read (A : Type 0) : Type 0 where
+  refused : ℕ → ℕ → Read A
+  got : A → ℕ → Read A
+
+abbrev pub refuseIf : {A : Type 0} → Bool → ℕ → ℕ → Read A → Read A
+refuseIf true n p x = refused n p
+refuseIf false n p x = x
+
+-- what is read next goes on from the place after what was read
+abbrev pub andThen : {A B : Type 0} → Read A → (A → ℕ → Read B) → Read B
+andThen (refused n p) f = refused n p
+andThen (got a at) f = f a at
+
+-- where the code is neither allowed nor declared there: number 5 at its byte
+abbrev pub orRefused : {A : Type 0} → ℕ → Option A → Read A
+orRefused at none = refused 5 at
+orRefused at (some a) = got a (at + 1)
+
+abbrev pub byteAt : List ℕ → ℕ → ℕ
+byteAt s i = getD s i 0
+
+abbrev pub missing : List ℕ → ℕ → Bool
+missing s i = leb (length s) i
+
+-- "Bytes 5 to 9, one count each: constants c, roles r, open names (variables) v, restrictions e, lines m."
+pub record Header : Type 0 where
+  pub c : ℕ
+  pub r : ℕ
+  pub v : ℕ
+  pub e : ℕ
+  pub m : ℕ
+
+abbrev pub headerOf : List ℕ → Header
+headerOf s = record { c = byteAt s 5; r = byteAt s 6; v = byteAt s 7; e = byteAt s 8; m = byteAt s 9 }
+
+-- "Bytes 0 to 2: the mark VOC (56 4F 43). Bytes 3 and 4: version, 1."
+unfoldable pub marked : List ℕ → Bool
+marked s = eqb (byteAt s 0) 0x56 && (eqb (byteAt s 1) 0x4F && eqb (byteAt s 2) 0x43)
+
+unfoldable pub versionOne : List ℕ → Bool
+versionOne s = eqb (byteAt s 3) 1 && eqb (byteAt s 4) 0
+
+-- "fewer than 10 bytes gives 1 before anything else. Then mark, version, counts in byte order (c + e is judged at byte 8)"
+unfoldable pub readHeader : List ℕ → Read Header
+readHeader s =
+    refuseIf (ltb (length s) 10) 1 (length s)
+    (refuseIf (not (marked s)) 2 0
+    (refuseIf (not (versionOne s)) 3 3
+    (refuseIf (ltb maxRoles (byteAt s 6)) 4 6
+    (refuseIf (ltb maxVariables (byteAt s 7)) 4 7
+    (refuseIf (ltb maxAtoms (byteAt s 5 + byteAt s 8)) 4 8
+    (refuseIf (ltb maxLines (byteAt s 9)) 4 9
+    (got (headerOf s) 10)))))))
+
+module _ (s : List ℕ) (h : Header) where
+  -- "two bytes: a role, less than r, and a filler code"; "a missing byte gives 1"
+  unfoldable pub readRow : ℕ → Read Row
+  readRow at =
+      refuseIf (missing s at) 1 (length s)
+      (refuseIf (leb (h .r) (byteAt s at)) 5 at
+      (refuseIf (missing s (at + 1)) 1 (length s)
+      (andThen (orRefused (at + 1) (fillerOf (h .c) (h .v) (byteAt s (at + 1)))) (λ f next.
+      got (record { role = byteAt s at; filler = f }) next))))
+
+  unfoldable pub readRows : ℕ → ℕ → Read (List Row)
+  readRows zero at = got [] at
+  readRows (suc k) at = andThen (readRow at) (λ row next. andThen (readRows k next) (λ rows end. got (row ∷ rows) end))
+
+  unfoldable pub readEntry : ℕ → Read Entry
+  readEntry at = refuseIf (missing s at) 1 (length s) (orRefused at (entryOf (h .c) (h .e) (h .v) (byteAt s at)))
+
+  unfoldable pub readEntries : ℕ → ℕ → Read (List Entry)
+  readEntries zero at = got [] at
+  readEntries (suc k) at = andThen (readEntry at) (λ x next. andThen (readEntries k next) (λ xs end. got (x ∷ xs) end))
+
+  -- "a left count p, p atom codes, and one right atom code"; "an over-large p gives 4 before its entries are read"
+  unfoldable pub readLine : ℕ → Read Line
+  readLine at =
+      refuseIf (missing s at) 1 (length s)
+      (refuseIf (ltb maxLeft (byteAt s at)) 4 at
+      (andThen (readEntries (byteAt s at) (at + 1)) (λ left next.
+      andThen (readEntry next) (λ right end.
+      got (record { left = left; right = right }) end))))
+
+  unfoldable pub readLines : ℕ → ℕ → Read (List Line)
+  readLines zero at = got [] at
+  readLines (suc k) at = andThen (readLine at) (λ l next. andThen (readLines k next) (λ ls end. got (l ∷ ls) end))
+
+pub data Reading : Type 0 where
+  refusal : ℕ → ℕ → Reading
+  readable : Header → Table → Reading
+
+-- "rows and lines in byte order"; "Then 6": "bytes after the last line", place "first of them"
+unfoldable pub readBody : List ℕ → Header → Read Table
+readBody s h =
+    andThen (readRows s h (h .e) 10) (λ rows next.
+    andThen (readLines s h (h .m) next) (λ lines end.
+    refuseIf (ltb end (length s)) 6 end
+    (got (record { constants = h .c; roles = h .r; variables = h .v; rows = rows; lines = lines }) end)))
+
+abbrev pub whole : Header → Read Table → Reading
+whole h (refused n p) = refusal n p
+whole h (got t end) = readable h t
+
+abbrev pub fromHeader : List ℕ → Read Header → Reading
+fromHeader s (refused n p) = refusal n p
+fromHeader s (got h at) = whole h (readBody s h)
+
+unfoldable pub reading : List ℕ → Reading
+reading s = fromHeader s (readHeader s)
+
+-- the table of a readable list of bytes; of an unreadable one an empty table
+abbrev pub theTable : Reading → Table
+theTable (refusal n p) = record { constants = 0; roles = 0; variables = 0; rows = []; lines = [] }
+theTable (readable h t) = t
+
+unfoldable pub tableOf : List ℕ → Table
+tableOf s = theTable (reading s)
+
+abbrev pub isReadable : Reading → Bool
+isReadable (refusal n p) = false
+isReadable (readable h t) = true

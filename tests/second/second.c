@@ -1,0 +1,479 @@
+/* The second solver of Makrothel. See second.h.
+
+   A set of non-variable atoms is a bit mask: bit k for constant k, bit c + k
+   for restriction k. A conjunction of atoms is the union of their sets, so a
+   line asks whether one set lies below another. */
+
+#include "second.h"
+
+enum {
+    HEADER = 10,         /* bytes before the first row */
+    MOST_ATOMS = 24,     /* c + e */
+    MOST_ROLES = 16,
+    MOST_VARIABLES = 12,
+    MOST_LINES = 64,
+    MOST_LEFT = 8        /* p */
+};
+
+/* ---- A table, decoded */
+
+enum kind { TOP, CONSTANT, RESTRICTION, VARIABLE, REFUSED };
+
+/* A code: what it names, and the number of the constant, row or variable. */
+struct code {
+    enum kind kind;
+    u32 k;
+};
+
+struct row {
+    u32 role;
+    struct code filler;
+};
+
+struct line {
+    u32 p;
+    struct code left[MOST_LEFT];
+    struct code right;
+    struct part part;    /* where it stands in the table */
+    u32 variables;       /* bit x: variable x is in it, or is a filler in it */
+};
+
+struct table {
+    u32 c, r, v, e, m;
+    struct row rows[MOST_ATOMS];
+    struct line lines[MOST_LINES];
+};
+
+/* Where a reader stands. `number` is 0 until the table is refused, and then
+   stays, with `place`. */
+struct reader {
+    const u8 *bytes;
+    u32 length;
+    u32 at;
+    u32 number, place;
+};
+
+static void refuse(struct reader *reader, u32 number, u32 place)
+{
+    if (reader->number == 0) {
+        reader->number = number;
+        reader->place = place;
+    }
+}
+
+/* The next byte; 0 where the table is refused, as it is for want of a byte. */
+static u32 next_byte(struct reader *reader)
+{
+    if (reader->number != 0) {
+        return 0;
+    }
+    if (reader->at >= reader->length) {
+        refuse(reader, ENDS_EARLY, reader->length);
+        return 0;
+    }
+    return reader->bytes[reader->at++];
+}
+
+/* A count or a left count: the next byte, which is at most `bound`. */
+static u32 next_count(struct reader *reader, u32 bound)
+{
+    u32 count = next_byte(reader);
+    if (count > bound) {
+        refuse(reader, COUNT_OVER_BOUND, reader->at - 1);
+        return 0;
+    }
+    return count;
+}
+
+static struct code decode(const struct table *table, u32 byte)
+{
+    struct code code = { REFUSED, 0 };
+    if (byte == 0) {
+        code.kind = TOP;
+    } else if (byte >= 0x20 && byte - 0x20 < table->c) {
+        code.kind = CONSTANT;
+        code.k = byte - 0x20;
+    } else if (byte >= 0x40 && byte - 0x40 < table->e) {
+        code.kind = RESTRICTION;
+        code.k = byte - 0x40;
+    } else if (byte >= 0x60 && byte - 0x60 < table->v) {
+        code.kind = VARIABLE;
+        code.k = byte - 0x60;
+    }
+    return code;
+}
+
+/* The next byte as a code; `barred` is the kind not allowed there. */
+static struct code next_code(struct reader *reader, const struct table *table, enum kind barred)
+{
+    u32 byte = next_byte(reader);
+    struct code code = decode(table, byte);
+    if (reader->number == 0 && (code.kind == REFUSED || code.kind == barred)) {
+        refuse(reader, CODE_REFUSED, reader->at - 1);
+    }
+    return code;
+}
+
+static void read_header(struct reader *reader, struct table *table)
+{
+    static const u8 mark[3] = { 0x56, 0x4F, 0x43 };
+    if (reader->length < HEADER) {
+        refuse(reader, ENDS_EARLY, reader->length);
+        return;
+    }
+    if (memcmp(reader->bytes, mark, 3) != 0) {
+        refuse(reader, WRONG_MARK, 0);
+        return;
+    }
+    if (reader->bytes[3] != 1 || reader->bytes[4] != 0) {
+        refuse(reader, WRONG_VERSION, 3);
+        return;
+    }
+    reader->at = 5;
+    table->c = next_count(reader, 255); /* judged with e */
+    table->r = next_count(reader, MOST_ROLES);
+    table->v = next_count(reader, MOST_VARIABLES);
+    table->e = next_byte(reader);
+    if (table->c + table->e > MOST_ATOMS) {
+        refuse(reader, COUNT_OVER_BOUND, 8);
+    }
+    table->m = next_count(reader, MOST_LINES);
+}
+
+static struct row read_row(struct reader *reader, const struct table *table)
+{
+    struct row row;
+    row.role = next_byte(reader);
+    if (reader->number == 0 && row.role >= table->r) {
+        refuse(reader, CODE_REFUSED, reader->at - 1);
+    }
+    row.filler = next_code(reader, table, RESTRICTION);
+    return row;
+}
+
+/* The variable that an atom is, or that a restriction has as filler: bit x. */
+static u32 variable_in(const struct table *table, struct code atom)
+{
+    if (atom.kind == RESTRICTION) {
+        return variable_in(table, table->rows[atom.k].filler);
+    }
+    return atom.kind == VARIABLE ? 1u << atom.k : 0;
+}
+
+static void read_line(struct reader *reader, const struct table *table, struct line *line)
+{
+    line->variables = 0;
+    line->part.start = reader->at;
+    line->p = next_count(reader, MOST_LEFT);
+    for (u32 i = 0; i < line->p; i++) {
+        line->left[i] = next_code(reader, table, TOP);
+    }
+    line->right = next_code(reader, table, TOP);
+    if (reader->number != 0) {
+        return;
+    }
+    line->part.length = reader->at - line->part.start;
+    line->variables = variable_in(table, line->right);
+    for (u32 i = 0; i < line->p; i++) {
+        line->variables |= variable_in(table, line->left[i]);
+    }
+}
+
+/* Decodes a table. The answer's number says whether it is readable. */
+static struct reading decode_table(const u8 *bytes, u32 length, struct table *table)
+{
+    struct reader reader = { bytes, length, 0, 0, 0 };
+    struct reading reading = { 0, 0, 0, 0, 0, 0, 0 };
+    read_header(&reader, table);
+    for (u32 k = 0; reader.number == 0 && k < table->e; k++) {
+        table->rows[k] = read_row(&reader, table);
+    }
+    for (u32 i = 0; reader.number == 0 && i < table->m; i++) {
+        read_line(&reader, table, &table->lines[i]);
+    }
+    if (reader.number == 0 && reader.at < length) {
+        refuse(&reader, BYTES_AFTER, reader.at);
+    }
+    reading.number = reader.number;
+    reading.place = reader.place;
+    if (reader.number == 0) {
+        reading.c = table->c;
+        reading.r = table->r;
+        reading.v = table->v;
+        reading.e = table->e;
+        reading.m = table->m;
+    }
+    return reading;
+}
+
+struct reading second_read(const u8 *bytes, u32 length)
+{
+    struct table table;
+    return decode_table(bytes, length, &table);
+}
+
+struct part second_line(const u8 *bytes, u32 length, u32 line)
+{
+    struct table table;
+    struct part empty = { 0, 0 };
+    if (decode_table(bytes, length, &table).number != 0 || line >= table.m) {
+        return empty;
+    }
+    return table.lines[line].part;
+}
+
+/* ---- A node */
+
+/* Sets for variables 0 to chosen - 1. */
+struct node {
+    u32 chosen;
+    u32 set[MOST_VARIABLES];
+    u32 reach[MOST_VARIABLES]; /* bit y of reach[x]: x depends on y over one or more steps */
+    u64 ready;                 /* bit i: line i is ready here */
+};
+
+/* ---- The order between descriptions, after substitution */
+
+/* The questions asked at one node. Bit j of holds[i] says that the filler of
+   row i lies below the filler of row j, where bit j of known[i] is set. */
+struct asking {
+    const struct table *table;
+    const struct node *node;
+    u32 known[MOST_ATOMS];
+    u32 holds[MOST_ATOMS];
+};
+
+/* The set of atoms whose conjunction a code stands for. */
+static u32 atoms_of(const struct asking *asking, struct code code)
+{
+    switch (code.kind) {
+    case CONSTANT: return 1u << code.k;
+    case RESTRICTION: return 1u << (asking->table->c + code.k);
+    case VARIABLE: return asking->node->set[code.k];
+    default: return 0;
+    }
+}
+
+static int filler_below_filler(struct asking *asking, u32 i, u32 j);
+
+/* Whether the conjunction of the set `left` lies below atom number `atom`. */
+static int below_atom(struct asking *asking, u32 left, u32 atom)
+{
+    const struct table *table = asking->table;
+    if (atom < table->c) {
+        return left >> atom & 1;
+    }
+    u32 j = atom - table->c;
+    for (u32 rest = left >> table->c; rest != 0; rest &= rest - 1) {
+        u32 i = (u32)__builtin_ctz(rest);
+        if (table->rows[i].role == table->rows[j].role && filler_below_filler(asking, i, j)) {
+            return 1;
+        }
+    }
+    return 0;
+}
+
+/* Whether the conjunction of `left` lies below that of `right`. */
+static int below(struct asking *asking, u32 left, u32 right)
+{
+    for (u32 rest = right; rest != 0; rest &= rest - 1) {
+        if (!below_atom(asking, left, (u32)__builtin_ctz(rest))) {
+            return 0;
+        }
+    }
+    return 1;
+}
+
+/* Whether the filler of row i lies below the filler of row j. The sets of the
+   node are acyclic, so this asks itself only finitely often. */
+static int filler_below_filler(struct asking *asking, u32 i, u32 j)
+{
+    if (!(asking->known[i] >> j & 1)) {
+        u32 left = atoms_of(asking, asking->table->rows[i].filler);
+        u32 right = atoms_of(asking, asking->table->rows[j].filler);
+        u32 holds = (u32)below(asking, left, right);
+        asking->holds[i] |= holds << j;
+        asking->known[i] |= 1u << j;
+    }
+    return asking->holds[i] >> j & 1;
+}
+
+static int line_holds(struct asking *asking, const struct line *line)
+{
+    u32 left = 0;
+    for (u32 i = 0; i < line->p; i++) {
+        left |= atoms_of(asking, line->left[i]);
+    }
+    return below(asking, left, atoms_of(asking, line->right));
+}
+
+/* ---- The walk */
+
+/* The variables on which a variable with this set depends directly. */
+static u32 dependences(const struct table *table, u32 set)
+{
+    u32 variables = 0;
+    for (u32 rest = set >> table->c; rest != 0; rest &= rest - 1) {
+        variables |= variable_in(table, table->rows[__builtin_ctz(rest)].filler);
+    }
+    return variables;
+}
+
+/* `variables`, and all that are reached from them over dependences. */
+static u32 reached(const struct node *node, u32 variables)
+{
+    u32 all = variables;
+    for (u32 x = 0; x < node->chosen; x++) {
+        if (variables >> x & 1) {
+            all |= node->reach[x];
+        }
+    }
+    return all;
+}
+
+/* Enters the dependences of the variable chosen last, x. Answers 0 if the
+   chosen sets are cyclic now: a cycle that was not there before leads over x. */
+static int enter_dependences(const struct table *table, struct node *node, u32 x)
+{
+    node->reach[x] = 0;
+    u32 reach = reached(node, dependences(table, node->set[x]));
+    if (reach >> x & 1) {
+        return 0;
+    }
+    node->reach[x] = reach;
+    for (u32 y = 0; y < x; y++) {
+        if (node->reach[y] >> x & 1) {
+            node->reach[y] |= reach;
+        }
+    }
+    return 1;
+}
+
+/* The lines that are ready at the node and are not marked so yet. */
+static u64 newly_ready(const struct table *table, const struct node *node)
+{
+    u32 unchosen = ~0u << node->chosen;
+    u64 lines = 0;
+    for (u32 i = 0; i < table->m; i++) {
+        u32 variables = table->lines[i].variables;
+        if (!(node->ready >> i & 1) && !(variables & unchosen)
+            && !(reached(node, variables) & unchosen)) {
+            lines |= (u64)1 << i;
+        }
+    }
+    return lines;
+}
+
+/* Marks the lines that have become ready. Answers 0 if one of them fails. The
+   lines that were ready before hold, as the parent is live, and what they say
+   does not change by a further choice. */
+static int ready_lines_hold(const struct table *table, struct node *node)
+{
+    u64 lines = newly_ready(table, node);
+    if (lines == 0) {
+        return 1;
+    }
+    struct asking asking = { table, node, { 0 }, { 0 } };
+    for (u64 rest = lines; rest != 0; rest &= rest - 1) {
+        if (!line_holds(&asking, &table->lines[__builtin_ctzll(rest)])) {
+            return 0;
+        }
+    }
+    node->ready |= lines;
+    return 1;
+}
+
+/* Makes the child of a live node with this set for the next variable.
+   Answers 0 if the child is dead. */
+static int live_child(const struct table *table, const struct node *node, u32 set, struct node *child)
+{
+    u32 x = node->chosen;
+    *child = *node;
+    child->set[x] = set;
+    child->chosen = x + 1;
+    return enter_dependences(table, child, x) && ready_lines_hold(table, child);
+}
+
+struct walk {
+    const struct table *table;
+    u32 budget;
+    u32 count;          /* the nodes examined so far */
+    struct node solved; /* the last node, where the walk ends solved */
+};
+
+/* Counts one more node. Answers 0 if the budget has none left. */
+static int one_more(struct walk *walk)
+{
+    if (walk->count == walk->budget) {
+        return 0;
+    }
+    walk->count++;
+    return 1;
+}
+
+/* Walks on from a live node, and answers SOLVED, NONE or BUDGET. */
+static u32 walk_on(struct walk *walk, const struct node *node)
+{
+    const struct table *table = walk->table;
+    struct node child;
+    if (node->chosen == table->v) {
+        walk->solved = *node;
+        return SOLVED;
+    }
+    for (u32 set = 0; set < 1u << (table->c + table->e); set++) {
+        if (!one_more(walk)) {
+            return BUDGET;
+        }
+        if (live_child(table, node, set, &child)) {
+            u32 number = walk_on(walk, &child);
+            if (number != NONE) {
+                return number;
+            }
+        }
+    }
+    return NONE;
+}
+
+static u32 walk_from_start(struct walk *walk)
+{
+    struct node start;
+    memset(&start, 0, sizeof start);
+    if (!one_more(walk)) {
+        return BUDGET;
+    }
+    return ready_lines_hold(walk->table, &start) ? walk_on(walk, &start) : NONE;
+}
+
+static void write_sets(const struct node *node, u8 *output)
+{
+    for (u32 x = 0; x < node->chosen; x++) {
+        for (u32 i = 0; i < 4; i++) {
+            output[4 * x + i] = (u8)(node->set[x] >> 8 * i);
+        }
+    }
+}
+
+struct answer second_solve(const u8 *bytes, u32 length, u32 budget, u8 *output, u32 room)
+{
+    struct table table;
+    struct reading reading = decode_table(bytes, length, &table);
+    struct answer answer = { reading.number, 0, reading.place };
+    if (reading.number != 0) {
+        return answer;
+    }
+    if (room < 4 * table.v) {
+        answer.number = OUTPUT_SHORT;
+        answer.place = 4 * table.v;
+        return answer;
+    }
+    struct walk walk;
+    walk.table = &table;
+    walk.budget = budget;
+    walk.count = 0;
+    answer.number = walk_from_start(&walk);
+    answer.count = walk.count;
+    if (answer.number == SOLVED) {
+        write_sets(&walk.solved, output);
+    }
+    return answer;
+}

@@ -5,3 +5,6 @@ pub mod Meaning
 pub mod Assignment
 pub mod Growth
 pub mod Walk
+pub mod ScanLaws
+pub mod StepLaws
+pub mod FirstLaws

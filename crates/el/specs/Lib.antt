@@ -5,3 +5,4 @@ pub mod Meaning
 pub mod Assignment
 pub mod Growth
 pub mod Walk
+pub mod TestLaws

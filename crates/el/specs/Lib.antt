@@ -6,3 +6,4 @@ pub mod Assignment
 pub mod Growth
 pub mod Walk
 pub mod TestLaws
+pub mod ReachLaws

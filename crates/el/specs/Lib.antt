@@ -8,3 +8,5 @@ pub mod Walk
 pub mod ScanLaws
 pub mod StepLaws
 pub mod FirstLaws
+pub mod TestLaws
+pub mod ReachLaws

@@ -10,3 +10,4 @@ pub mod StepLaws
 pub mod FirstLaws
 pub mod TestLaws
 pub mod ReachLaws
+pub mod NodeLaws

@@ -11,3 +11,4 @@ pub mod FirstLaws
 pub mod TestLaws
 pub mod ReachLaws
 pub mod NodeLaws
+pub mod OutcomeLaws

@@ -139,8 +139,8 @@ module _ (t : Table) (known : T (declared t)) (s l : Node) where
   unfolding settled chosen
   settled-reached x y h r =
       let g : T (not (reaches t s x y) || ltb y (length s)) = allBelow-at (t .variables) y (λ z. not (reaches t s x z) || chosen s z)
-            (and-right (ltb x (length s)) (allBelow (t .variables) (λ z. not (reaches t s x z) || chosen s z)) h)
-            (reaches-declared t known s (reaches-means t known s x y .0 r)) in
+      (and-right (ltb x (length s)) (allBelow (t .variables) (λ z. not (reaches t s x z) || chosen s z)) h)
+      (reaches-declared t known s (reaches-means t known s x y .0 r)) in
       elim (or-cases (not (reaches t s x y)) (ltb y (length s)) g) [ inl n ↦ absurd (T-not (reaches t s x y) n r) | inr c ↦ ltb→lt y (length s) c ]
 
   pub settled-make : (x : ℕ) → x < length s → ((y : ℕ) → T (reaches t s x y) → y < length s) → T (settled t s x)

@@ -1,10 +1,10 @@
-/* ask SEED COUNT: writes a stream of COUNT questions, or some more, on standard
-   output: the same for the same seed. There are tables that are solved, that
+/* ask SEED COUNT [WALK]: writes a stream of COUNT questions, or some more, on
+   standard output: the same for the same seed. WALK bounds N for most of them. There are tables that are solved, that
    have no solution and that go over the budget; bounds and codes at and beyond
    their limits; and tables damaged, cut short and made too long. It asks the
    second solver for N, so that no question needs a long walk.
 
-   ask stats SEED COUNT: says instead how often each kind of question and each
+   ask stats SEED COUNT [WALK]: says instead how often each kind of question and each
    number is in that stream. */
 
 #include "draft.h"
@@ -12,10 +12,11 @@
 #include "stream.h"
 
 enum {
-    SHORT_WALK = 4500,  /* the longest walk of most questions */
-    LONG_WALK = 20000,  /* of some */
+    USUAL_WALK = 4500,   /* enough for 4 atoms and 3 variables */
     LONGEST = 0xFFFFFFFF /* the largest budget, and the largest line number */
 };
+
+static u32 short_walk = USUAL_WALK; /* most walks are no longer, and some are up to four times this */
 
 static struct chance chance;
 
@@ -124,7 +125,7 @@ static u32 budget_near(u32 n)
 
 static u32 random_budget(const u8 *bytes, u32 length)
 {
-    u32 walk = percent(&chance, 8) ? LONG_WALK : SHORT_WALK;
+    u32 walk = percent(&chance, 8) ? 4 * short_walk : short_walk;
     struct answer answer = try_table(bytes, length, walk);
     switch (answer.number) {
     case SOLVED: case NONE: return budget_near(answer.count);
@@ -219,7 +220,7 @@ static struct answer try_draft(const struct draft *draft)
 {
     u8 bytes[DRAFT_BYTES];
     u32 length = write_draft(draft, bytes);
-    return try_table(bytes, length, SHORT_WALK);
+    return try_table(bytes, length, short_walk);
 }
 
 /* Whether a line is kept that has brought a table from one answer to another:
@@ -663,9 +664,13 @@ static void group_garbage(void)
     ask_any(bytes, percent(&chance, 30) ? below_bound(&chance, 14) : below_bound(&chance, sizeof bytes));
 }
 
-/* A set number beyond two bytes: the one long walk. */
+/* A set number beyond two bytes: the one long walk. Not asked for where walks
+   are to be short. */
 static void group_long(void)
 {
+    if (short_walk < USUAL_WALK) {
+        return;
+    }
     u8 bytes[DRAFT_BYTES];
     struct draft draft;
     struct question question = { .kind = KIND_SOLVE, .room = 4 };
@@ -723,12 +728,17 @@ static void ask_all(u64 count)
 
 int main(int words, char **word)
 {
-    only_stats = words == 4 && strcmp(word[1], "stats") == 0;
-    if (words != 3 && !only_stats) {
-        fail("usage: ask [stats] SEED COUNT");
+    only_stats = words > 1 && strcmp(word[1], "stats") == 0;
+    u32 first = only_stats ? 2 : 1;
+    u32 given = (u32)words - first;
+    if (given < 2 || given > 3) {
+        fail("usage: ask [stats] SEED COUNT [WALK]");
     }
-    chance.state = number_of(word[words - 2]);
-    ask_all(number_of(word[words - 1]));
+    chance.state = number_of(word[first]);
+    if (given == 3) {
+        short_walk = (u32)number_of(word[first + 2]);
+    }
+    ask_all(number_of(word[first + 1]));
     if (only_stats) {
         put_stats();
     }

@@ -34,9 +34,10 @@ struct pair {
 
 static void make_small(struct chance *chance, struct draft *draft)
 {
-    u32 all = between(chance, 1, 3);
-    u32 c = below_bound(chance, all + 1);
-    draft_start(draft, c, between(chance, 1, 2), between(chance, percent(chance, 10) ? 0 : 1, 2));
+    u32 all = between(chance, 1, 4);
+    u32 c = below_bound(chance, all / 2 + 1);
+    u32 v = percent(chance, 10) ? below_bound(chance, 4) : between(chance, 1, 2);
+    draft_start(draft, c, between(chance, 1, 2), v);
     add_random_rows(chance, draft, all - c);
     u32 lines = between(chance, 1, 4);
     for (u32 i = 0; i < lines; i++) {
@@ -251,6 +252,10 @@ static int check_pairs(u64 seed, u64 count)
         tally.pairs[pair.kind]++;
         tally.none[pair.kind] += first.number == NONE && decided(&second);
         tally.solved[pair.kind] += first.number == SOLVED && decided(&second);
+    }
+    if (get_byte() >= 0) {
+        put_text("grow: there are more answers than questions\n");
+        return 0;
     }
     put_tally(&tally);
     if (!enough(&tally)) {

@@ -147,16 +147,9 @@ static void variables(void)
 static void many_lines(u32 c, u32 rows, u32 v)
 {
     struct draft draft;
-    u8 left[8];
     draft_start(&draft, c, 2, v);
     add_random_rows(&chance, &draft, rows);
-    while (draft.m < 62) {
-        u32 p = between(&chance, 4, 8);
-        for (u32 k = 0; k < p; k++) {
-            left[k] = (u8)random_entry(&chance, &draft);
-        }
-        add_line(&draft, p, left, left[below_bound(&chance, p)]);
-    }
+    add_easy_lines(&chance, &draft, 62, 4, 8);
     below_code(&draft, 0, CODE_RESTRICTION + rows - 1);
     below_code(&draft, v - 1, CODE_RESTRICTION + rows - 2);
     ask(&draft, 1500000);
@@ -231,6 +224,7 @@ static void none(void)
     torn_chain(3, 4);
     torn_chain(4, 2);
     torn_chain(4, 3);
+    torn_chain(4, 4);
 }
 
 /* ---- */

@@ -1,24 +1,23 @@
 /* ask SEED COUNT [WALK]: writes a stream of COUNT questions, or some more, on
-   standard output: the same for the same seed. WALK bounds N for most of them. There are tables that are solved, that
-   have no solution and that go over the budget; bounds and codes at and beyond
-   their limits; and tables damaged, cut short and made too long. It asks the
-   second solver for N, so that no question needs a long walk.
+   standard output: the same for the same seed. There are tables that are
+   solved, that have no solution and that go over the budget; bounds and codes
+   at and beyond their limits; and tables damaged, cut short and made too long.
+   It asks the second solver for N, so that few walks are longer than WALK.
 
-   ask stats SEED COUNT [WALK]: says instead how often each kind of question and each
-   number is in that stream. */
+   ask stats SEED COUNT [WALK]: says instead how often each kind of question and
+   each number is in that stream. */
 
-#include "draft.h"
 #include "second.h"
 #include "stream.h"
+#include "tables.h"
 
-enum {
-    USUAL_WALK = 4500,   /* enough for 4 atoms and 3 variables */
-    LONGEST = 0xFFFFFFFF /* the largest budget, and the largest line number */
-};
+/* Enough for any table with 4 atoms and 3 variables. */
+enum { USUAL_WALK = 4500 };
 
-static u32 short_walk = USUAL_WALK; /* most walks are no longer, and some are up to four times this */
+static const u32 largest = 0xFFFFFFFF;
 
 static struct chance chance;
+static u32 walk = USUAL_WALK;
 
 /* ---- What has been asked */
 
@@ -26,29 +25,41 @@ static u64 asked;
 static int only_stats;
 
 static struct {
-    u64 solve[10], read[7], lines, lines_empty, nodes, longest;
+    u64 solve[10], read[7], lines, empty_parts, nodes, longest;
 } stats;
 
-static void count_question(const struct question *question)
+static void count_solve(const struct question *question)
 {
     u8 output[MOST_OUTPUT];
     u32 room = question->room > MOST_OUTPUT ? MOST_OUTPUT : question->room;
-    struct answer answer;
+    struct answer answer = second_solve(question->table, question->length, question->number,
+                                        output, room);
+    stats.solve[answer.number]++;
+    stats.nodes += answer.count;
+    stats.longest = answer.count > stats.longest ? answer.count : stats.longest;
+}
+
+static void count_question(const struct question *question)
+{
     switch (question->kind) {
     case KIND_READ:
         stats.read[second_read(question->table, question->length).number]++;
         break;
     case KIND_LINE:
         stats.lines++;
-        stats.lines_empty += second_line(question->table, question->length, question->number).length == 0;
+        stats.empty_parts += second_line(question->table, question->length, question->number).length == 0;
         break;
     default:
-        answer = second_solve(question->table, question->length, question->number, output, room);
-        stats.solve[answer.number]++;
-        stats.nodes += answer.count;
-        stats.longest = answer.count > stats.longest ? answer.count : stats.longest;
+        count_solve(question);
         break;
     }
+}
+
+static void put_count(const char *before, u64 count, const char *after)
+{
+    put_text(before);
+    put_number(count);
+    put_text(after);
 }
 
 static void put_histogram(const char *name, const u64 *counts, u32 length)
@@ -58,37 +69,24 @@ static void put_histogram(const char *name, const u64 *counts, u32 length)
         all += counts[i];
     }
     put_text(name);
-    put_text(" questions: ");
-    put_number(all);
-    put_text("\n");
+    put_count(" questions: ", all, "\n");
     for (u32 i = 0; i < length && all > 0; i++) {
         u64 tenths = counts[i] * 1000 / all;
-        put_text("  number ");
-        put_number(i);
-        put_text(": ");
-        put_number(counts[i]);
-        put_text(", ");
-        put_number(tenths / 10);
-        put_text(".");
-        put_number(tenths % 10);
-        put_text(" percent\n");
+        put_count("  number ", i, ": ");
+        put_count("", counts[i], ", ");
+        put_count("", tenths / 10, ".");
+        put_count("", tenths % 10, " percent\n");
     }
 }
 
 static void put_stats(void)
 {
     put_histogram("solve", stats.solve, 10);
-    put_text("  nodes: ");
-    put_number(stats.nodes);
-    put_text(", longest walk: ");
-    put_number(stats.longest);
-    put_text("\n");
+    put_count("  nodes: ", stats.nodes, ", ");
+    put_count("longest walk: ", stats.longest, "\n");
     put_histogram("read", stats.read, 7);
-    put_text("line questions: ");
-    put_number(stats.lines);
-    put_text(", with an empty part: ");
-    put_number(stats.lines_empty);
-    put_text("\n");
+    put_count("line questions: ", stats.lines, ", ");
+    put_count("with an empty part: ", stats.empty_parts, "\n");
 }
 
 static void ask(const struct question *question)
@@ -103,13 +101,6 @@ static void ask(const struct question *question)
 
 /* ---- One question about a table */
 
-/* Number and N of a table under a budget for the search of questions. */
-static struct answer try_table(const u8 *bytes, u32 length, u32 budget)
-{
-    u8 output[4 * 12];
-    return second_solve(bytes, length, budget, output, sizeof output);
-}
-
 /* A budget for a table that is answered with N nodes: often close to N. */
 static u32 budget_near(u32 n)
 {
@@ -117,7 +108,7 @@ static u32 budget_near(u32 n)
     case 0: case 1: return n - 1;
     case 2: case 3: case 4: return n;
     case 5: return n + 1;
-    case 6: return LONGEST;
+    case 6: return largest;
     case 7: return percent(&chance, 40) ? 0 : between(&chance, 0, n);
     default: return n + below_bound(&chance, 10000);
     }
@@ -125,11 +116,12 @@ static u32 budget_near(u32 n)
 
 static u32 random_budget(const u8 *bytes, u32 length)
 {
-    u32 walk = percent(&chance, 8) ? 4 * short_walk : short_walk;
-    struct answer answer = try_table(bytes, length, walk);
+    u8 output[4 * 12];
+    u32 most = percent(&chance, 8) ? 4 * walk : walk;
+    struct answer answer = second_solve(bytes, length, most, output, sizeof output);
     switch (answer.number) {
     case SOLVED: case NONE: return budget_near(answer.count);
-    case BUDGET: return percent(&chance, 90) ? below_bound(&chance, 300) : below_bound(&chance, walk);
+    case BUDGET: return below_bound(&chance, percent(&chance, 90) ? 300 : most);
     default: return percent(&chance, 20) ? (u32)draw(&chance) : below_bound(&chance, 1000);
     }
 }
@@ -137,13 +129,10 @@ static u32 random_budget(const u8 *bytes, u32 length)
 /* A length of output, for a table of v variables. */
 static u32 random_room(u32 v)
 {
-    u32 lot = below_bound(&chance, 1000);
     u32 need = 4 * v;
-    if (lot < 3) {
-        return MOST_OUTPUT;
-    }
+    u32 lot = below_bound(&chance, 1000);
     if (lot < 5) {
-        return between(&chance, MOST_OUTPUT + 1, 65535);
+        return lot < 3 ? MOST_OUTPUT : between(&chance, MOST_OUTPUT + 1, 65535);
     }
     switch (lot % 16) {
     case 0: return need > 0 ? need - 1 : 0;
@@ -155,47 +144,48 @@ static u32 random_room(u32 v)
     }
 }
 
+/* A line number, for a table of m lines. */
 static u32 random_line_number(u32 m)
 {
     switch (below_bound(&chance, 10)) {
     case 0: return m;
-    case 1: return m == 0 ? 1 : m - 1;
-    case 2: return percent(&chance, 50) ? LONGEST : m + 1;
-    case 3: return below_bound(&chance, m + 1) + (256u << between(&chance, 0, 23));
-    default: return below_bound(&chance, m + 1);
+    case 1: return m > 0 ? m - 1 : 1;
+    case 2: return percent(&chance, 50) ? largest : m + 1;
+    case 3: return below_bound(&chance, m) + (256u << between(&chance, 0, 23));
+    default: return below_bound(&chance, m);
     }
 }
 
-static void load(struct question *question, const u8 *bytes, u32 length)
+static void load(struct question *question, u32 kind, const u8 *bytes, u32 length)
 {
+    question->kind = kind;
+    question->number = percent(&chance, 10) ? (u32)draw(&chance) : 0;
+    question->room = percent(&chance, 10) ? below_bound(&chance, 65536) : 0;
     question->length = length;
     memcpy(question->table, bytes, length);
 }
 
 static void ask_read(const u8 *bytes, u32 length)
 {
-    struct question question = { .kind = KIND_READ };
-    load(&question, bytes, length);
-    question.number = percent(&chance, 10) ? (u32)draw(&chance) : 0;
-    question.room = percent(&chance, 10) ? below_bound(&chance, 65536) : 0;
+    struct question question;
+    load(&question, KIND_READ, bytes, length);
     ask(&question);
 }
 
 static void ask_line(const u8 *bytes, u32 length)
 {
-    struct question question = { .kind = KIND_LINE };
+    struct question question;
     u32 m = second_read(bytes, length).m;
-    load(&question, bytes, length);
+    load(&question, KIND_LINE, bytes, length);
     question.number = random_line_number(m > 0 ? m : below_bound(&chance, 4));
-    question.room = percent(&chance, 10) ? below_bound(&chance, 65536) : 0;
     ask(&question);
 }
 
 static void ask_solve(const u8 *bytes, u32 length)
 {
-    struct question question = { .kind = KIND_SOLVE };
+    struct question question;
     struct reading reading = second_read(bytes, length);
-    load(&question, bytes, length);
+    load(&question, KIND_SOLVE, bytes, length);
     question.number = random_budget(bytes, length);
     question.room = random_room(reading.number == 0 ? reading.v : below_bound(&chance, 4));
     ask(&question);
@@ -214,269 +204,65 @@ static void ask_any(const u8 *bytes, u32 length)
     }
 }
 
-/* ---- Readable tables */
-
-static struct answer try_draft(const struct draft *draft)
-{
-    u8 bytes[DRAFT_BYTES];
-    u32 length = write_draft(draft, bytes);
-    return try_table(bytes, length, short_walk);
-}
-
-/* Whether a line is kept that has brought a table from one answer to another:
-   mostly if the table is solved by a longer walk. */
-static int keep_line(struct answer before, struct answer after)
-{
-    if (after.number == NONE) {
-        return percent(&chance, 8);
-    }
-    if (after.number == BUDGET) {
-        return percent(&chance, 10);
-    }
-    return after.count > before.count || percent(&chance, 30);
-}
-
-/* Adds up to so many lines, one at a time, and takes back those that are not
-   kept. */
-static void add_lines_by_trial(struct draft *draft, u32 lines, u32 most_left)
-{
-    struct answer before = try_draft(draft);
-    u32 most = draft->m + lines;
-    for (u32 i = 0; i < 3 * lines && draft->m < most && has_entries(draft); i++) {
-        u32 m = draft->m;
-        add_random_line(&chance, draft, most_left);
-        struct answer after = try_draft(draft);
-        if (keep_line(before, after)) {
-            before = after;
-        } else {
-            draft->m = m;
-        }
-    }
-}
-
-/* Counts by chance, with at most `atoms` constants and rows and 0 to v
-   variables, and the rows. */
-static void start_by_chance(struct draft *draft, u32 atoms, u32 least_v, u32 most_v)
-{
-    u32 all = between(&chance, 1, atoms);
-    u32 c = percent(&chance, 50) ? below_bound(&chance, 2) : below_bound(&chance, all + 1);
-    c = c > all ? all : c;
-    draft_start(draft, c, between(&chance, 1, 2), between(&chance, least_v, most_v));
-    add_random_rows(&chance, draft, all - c);
-    if (draft->e == 0 && percent(&chance, 50)) {
-        draft->r = 0;
-    }
-}
-
-static void make_small(struct draft *draft)
-{
-    start_by_chance(draft, 4, 0, 3);
-    u32 lines = below_bound(&chance, 5);
-    for (u32 i = 0; i < lines && has_entries(draft); i++) {
-        add_random_line(&chance, draft, 3);
-    }
-}
-
-static void make_by_trial(struct draft *draft)
-{
-    start_by_chance(draft, 4, 1, 3);
-    add_lines_by_trial(draft, between(&chance, 3, 9), 4);
-}
-
-/* More variables over fewer atoms. */
-static void make_deep(struct draft *draft)
-{
-    start_by_chance(draft, 3, 3, 6);
-    add_lines_by_trial(draft, between(&chance, 3, 10), 3);
-}
-
-/* One variable over more atoms, and some lines with long left sides. */
-static void make_broad(struct draft *draft)
-{
-    start_by_chance(draft, 9, 1, 1);
-    add_lines_by_trial(draft, between(&chance, 2, 8), 8);
-}
-
-/* No variables: the order alone. */
-static void make_ground(struct draft *draft)
-{
-    start_by_chance(draft, 12, 0, 0);
-    add_lines_by_trial(draft, between(&chance, 1, 12), 8);
-}
-
-/* A chain: each variable below a restriction on its neighbour. `up` says
-   whether the neighbour is the next variable or the one before. */
-static void make_chain(struct draft *draft)
-{
-    int up = percent(&chance, 50);
-    u32 v = up ? between(&chance, 2, 3) : between(&chance, 2, 6);
-    draft_start(draft, between(&chance, 0, 1), between(&chance, 1, 2), v);
-    for (u32 x = 0; x + 1 < v; x++) {
-        u8 variable = (u8)(CODE_VARIABLE + (up ? x : x + 1));
-        add_row(draft, below_bound(&chance, draft->r), CODE_VARIABLE + (up ? x + 1 : x));
-        add_line(draft, 1, &variable, CODE_RESTRICTION + x);
-    }
-    if (percent(&chance, 60)) {
-        add_random_rows(&chance, draft, 1);
-    }
-    add_lines_by_trial(draft, between(&chance, 1, 4), 3);
-}
-
-/* A tower: variable x + 1 is below a restriction on variable x, so that the
-   order between the high ones is decided only at the bottom. */
-static void make_tower(struct draft *draft)
-{
-    u32 v = between(&chance, 3, 12);
-    draft_start(draft, below_bound(&chance, 2), percent(&chance, 80) ? 1 : 2, v);
-    for (u32 x = 0; x + 1 < v; x++) {
-        u8 higher = (u8)(CODE_VARIABLE + x + 1);
-        add_row(draft, percent(&chance, 90) ? 0 : draft->r - 1, CODE_VARIABLE + x);
-        add_line(draft, 1, &higher, CODE_RESTRICTION + x);
-    }
-    for (u32 i = 0; i < 2; i++) {
-        u32 high = between(&chance, draft->e / 2, draft->e - 1);
-        u8 left = (u8)(CODE_RESTRICTION + high);
-        add_line(draft, 1, &left, CODE_RESTRICTION + between(&chance, high / 2, high));
-    }
-    add_lines_by_trial(draft, between(&chance, 1, 4), 3);
-}
-
-/* Two towers side by side, which stand on the same or on different sets, and
-   lines that compare them. */
-static void make_two_towers(struct draft *draft)
-{
-    u32 height = between(&chance, 2, 5);
-    u8 bottom[2] = { CODE_VARIABLE, CODE_VARIABLE + 1 };
-    draft_start(draft, between(&chance, 1, 2), percent(&chance, 80) ? 1 : 2, 2 * height);
-    add_line(draft, 1, bottom, CODE_CONSTANT + below_bound(&chance, draft->c));
-    if (percent(&chance, 70)) {
-        add_line(draft, 1, bottom + 1, CODE_CONSTANT + below_bound(&chance, draft->c));
-    }
-    for (u32 x = 0; x + 2 < 2 * height; x++) {
-        u8 higher = (u8)(CODE_VARIABLE + x + 2);
-        add_row(draft, percent(&chance, 90) ? 0 : draft->r - 1, CODE_VARIABLE + x);
-        if (percent(&chance, 90)) {
-            add_line(draft, 1, &higher, CODE_RESTRICTION + x);
-        }
-    }
-    add_lines_by_trial(draft, between(&chance, 1, 5), 3);
-}
-
-/* Counts up to the bounds, with few lines, of which each is easy to meet. */
-static void make_wide(struct draft *draft)
-{
-    u32 all = between(&chance, 5, 24);
-    u32 c = percent(&chance, 30) ? below_bound(&chance, all + 1) : below_bound(&chance, 4);
-    draft_start(draft, c, between(&chance, 1, 16), between(&chance, 1, 12));
-    add_random_rows(&chance, draft, all - c);
-    u32 lines = between(&chance, 0, 3);
-    for (u32 i = 0; i < lines; i++) {
-        u8 variable = (u8)(CODE_VARIABLE + below_bound(&chance, draft->v));
-        u32 low = below_bound(&chance, 5);
-        add_line(draft, 1, &variable, low < c ? CODE_CONSTANT + low : CODE_RESTRICTION + (low - c));
-    }
-    if (percent(&chance, 50)) {
-        add_lines_by_trial(draft, between(&chance, 1, 6), 8);
-    }
-}
-
-/* Lines that hold under any sets, so that a table with many is soon solved:
-   each has its right entry on the left too. */
-static void add_easy_lines(struct draft *draft, u32 lines, u32 least_left, u32 most_left)
-{
-    u8 left[DRAFT_LEFT];
-    for (u32 i = 0; i < lines && has_entries(draft); i++) {
-        u32 p = between(&chance, least_left, most_left);
-        for (u32 k = 0; k < p; k++) {
-            left[k] = (u8)random_entry(&chance, draft);
-        }
-        add_line(draft, p, left, left[below_bound(&chance, p)]);
-    }
-}
-
-/* Many lines, of which a few say something, at any place among the others. */
-static void make_long(struct draft *draft)
-{
-    start_by_chance(draft, 4, 1, 3);
-    add_lines_by_trial(draft, between(&chance, 2, 7), 4);
-    add_easy_lines(draft, between(&chance, 12, 57), 1, percent(&chance, 50) ? 2 : 8);
-    for (u32 i = draft->m; i-- > 1;) {
-        u32 other = below_bound(&chance, i + 1);
-        struct draft_line kept = draft->line[i];
-        draft->line[i] = draft->line[other];
-        draft->line[other] = kept;
-    }
-}
-
-static void make_table(struct draft *draft)
-{
-    u32 lot = below_bound(&chance, 100);
-    if (lot < 12) {
-        make_small(draft);
-    } else if (lot < 40) {
-        make_by_trial(draft);
-    } else if (lot < 52) {
-        make_chain(draft);
-    } else if (lot < 62) {
-        make_deep(draft);
-    } else if (lot < 70) {
-        make_broad(draft);
-    } else if (lot < 80) {
-        make_wide(draft);
-    } else if (lot < 87) {
-        make_tower(draft);
-    } else if (lot < 95) {
-        make_two_towers(draft);
-    } else if (lot < 97) {
-        make_long(draft);
-    } else {
-        make_ground(draft);
-    }
-}
+/* ---- Groups of questions: tables as they are */
 
 /* A readable table as bytes. Answers its length. */
 static u32 make_bytes(u8 *bytes)
 {
     struct draft draft;
-    make_table(&draft);
+    make_table(&chance, walk, &draft);
     return write_draft(&draft, bytes);
 }
-
-/* A readable table with at least one row and one line. */
-static void make_with_row_and_line(struct draft *draft)
-{
-    do {
-        make_table(draft);
-    } while (draft->e == 0 || draft->m == 0);
-}
-
-/* ---- Groups of questions */
 
 static void group_table(void)
 {
     u8 bytes[DRAFT_BYTES];
     u32 length = make_bytes(bytes);
-    u32 times = between(&chance, 2, 4);
-    for (u32 i = 0; i < times; i++) {
+    u32 solves = between(&chance, 2, 4);
+    u32 lines = below_bound(&chance, 3);
+    for (u32 i = 0; i < solves; i++) {
         ask_solve(bytes, length);
+    }
+    for (u32 i = 0; i < lines; i++) {
+        ask_line(bytes, length);
     }
     if (percent(&chance, 40)) {
         ask_read(bytes, length);
     }
-    if (percent(&chance, 60)) {
-        ask_line(bytes, length);
-    }
 }
 
-/* A byte to put in the place of another: one more or less, the first or last
-   code of a range or the one after it, or any. */
-static u32 damage(u8 kept)
+/* A set number beyond two bytes: the one long walk. There is none where walks
+   are to be short. */
+static void group_long_walk(void)
+{
+    u8 bytes[DRAFT_BYTES];
+    u8 left = CODE_VARIABLE;
+    struct draft draft;
+    struct question question;
+    if (walk < USUAL_WALK) {
+        return;
+    }
+    draft_start(&draft, between(&chance, 17, 20), 0, 1);
+    add_line(&draft, 1, &left, CODE_CONSTANT + 16);
+    add_line(&draft, 1, &left, CODE_CONSTANT + below_bound(&chance, 12));
+    u32 length = write_draft(&draft, bytes);
+    load(&question, KIND_SOLVE, bytes, length);
+    question.number = 80000;
+    question.room = 4;
+    ask(&question);
+}
+
+/* ---- Groups of questions: damage */
+
+/* A byte to put in the place of another: one more or less, the first code of a
+   range, another code of the same range, or any. */
+static u8 damage(u8 kept)
 {
     switch (below_bound(&chance, 5)) {
     case 0: return (u8)(kept + 1);
     case 1: return (u8)(kept - 1);
-    case 2: return 32 * below_bound(&chance, 4);
-    case 3: return kept / 32 * 32 + below_bound(&chance, 14);
+    case 2: return (u8)(32 * below_bound(&chance, 4));
+    case 3: return (u8)(kept / 32 * 32 + below_bound(&chance, 14));
     default: return (u8)draw(&chance);
     }
 }
@@ -488,7 +274,7 @@ static void group_damage(void)
     u32 length = make_bytes(bytes);
     for (u32 i = 0; i < length; i++) {
         u8 kept = bytes[i];
-        bytes[i] = (u8)damage(kept);
+        bytes[i] = damage(kept);
         ask_any(bytes, length);
         bytes[i] = kept;
     }
@@ -504,15 +290,15 @@ static void group_truncation(void)
     }
 }
 
-/* A table with a bad byte, and cut short after it or before it. */
-static void group_damage_and_truncation(void)
+/* A table with a damaged byte, cut short before or after it. */
+static void group_both(void)
 {
     u8 bytes[DRAFT_BYTES];
     u32 length = make_bytes(bytes);
     for (u32 i = 0; i < 12; i++) {
         u32 place = below_bound(&chance, length);
         u8 kept = bytes[place];
-        bytes[place] = (u8)damage(kept);
+        bytes[place] = damage(kept);
         ask_any(bytes, between(&chance, place, length));
         bytes[place] = kept;
     }
@@ -524,7 +310,7 @@ static void group_after(void)
     u8 bytes[DRAFT_BYTES + MOST_TABLE];
     u32 length = make_bytes(bytes);
     for (u32 i = length; i < MOST_TABLE; i++) {
-        bytes[i] = (u8)(percent(&chance, 30) ? 0 : draw(&chance));
+        bytes[i] = percent(&chance, 30) ? 0 : (u8)draw(&chance);
     }
     ask_solve(bytes, length + 1);
     ask_any(bytes, length + 1);
@@ -535,14 +321,49 @@ static void group_after(void)
     }
 }
 
-/* A table with these counts: at a bound, or over it. */
+/* Mark and version: bytes wrong alone and together, the version's more often. */
+static void group_mark(void)
+{
+    u8 bytes[DRAFT_BYTES], wrong[DRAFT_BYTES];
+    u32 length = make_bytes(bytes);
+    for (u32 i = 0; i < 24; i++) {
+        u32 which = percent(&chance, 60) ? 8 * between(&chance, 1, 3) : between(&chance, 1, 31);
+        memcpy(wrong, bytes, length);
+        for (u32 k = 0; k < 5; k++) {
+            wrong[k] += (u8)((which >> k & 1) * between(&chance, 1, 255));
+        }
+        ask_any(wrong, percent(&chance, 80) ? length : below_bound(&chance, length + 1));
+    }
+}
+
+/* Bytes by chance: all of them, or those after a good mark and version, or
+   small counts and then bytes that are mostly codes. */
+static void group_garbage(void)
+{
+    u8 bytes[100] = { 0x56, 0x4F, 0x43, 1, 0 };
+    u32 lot = below_bound(&chance, 4);
+    for (u32 i = lot == 0 ? 0 : 5; i < sizeof bytes; i++) {
+        if (lot < 2) {
+            bytes[i] = (u8)draw(&chance);
+        } else if (i < 10) {
+            bytes[i] = (u8)below_bound(&chance, 4);
+        } else {
+            bytes[i] = (u8)(below_bound(&chance, 3) + (percent(&chance, 50) ? 0 : 32 * below_bound(&chance, 4)));
+        }
+    }
+    ask_any(bytes, below_bound(&chance, percent(&chance, 30) ? 14 : sizeof bytes));
+}
+
+/* ---- Groups of questions: bounds and codes */
+
+/* A table with these counts, at a bound or over it. */
 static void ask_counts(u32 c, u32 r, u32 v, u32 e, u32 m, u32 p)
 {
     u8 bytes[DRAFT_BYTES];
     struct draft draft;
     draft_start(&draft, c, r, v);
     add_random_rows(&chance, &draft, e);
-    add_easy_lines(&draft, m, p, p);
+    add_easy_lines(&chance, &draft, m, p, p);
     u32 length = write_draft(&draft, bytes);
     length = length > MOST_TABLE ? MOST_TABLE : length;
     ask_read(bytes, length);
@@ -582,22 +403,6 @@ static void group_bounds(void)
     ask_counts(0, 16, 12, 24, 64, 8);
 }
 
-/* Mark and version: bytes wrong alone and together, those of the version often. */
-static void group_mark(void)
-{
-    u8 bytes[DRAFT_BYTES];
-    u32 length = make_bytes(bytes);
-    for (u32 i = 0; i < 24; i++) {
-        u32 wrong = percent(&chance, 60) ? 8 * between(&chance, 1, 3) : between(&chance, 1, 31);
-        u8 damaged[DRAFT_BYTES];
-        memcpy(damaged, bytes, length);
-        for (u32 k = 0; k < 5; k++) {
-            damaged[k] += (u8)((wrong >> k & 1) * between(&chance, 1, 255));
-        }
-        ask_any(damaged, percent(&chance, 80) ? length : below_bound(&chance, length + 1));
-    }
-}
-
 /* Every value of one byte of a table. */
 static void ask_every_value(u8 *bytes, u32 length, u32 place)
 {
@@ -609,107 +414,58 @@ static void ask_every_value(u8 *bytes, u32 length, u32 place)
     bytes[place] = kept;
 }
 
-static void every_filler(void)
+/* Every value of a filler, of a left entry and of a right one. */
+static void group_codes(void)
 {
     u8 bytes[DRAFT_BYTES];
     struct draft draft;
-    make_with_row_and_line(&draft);
+    make_full_table(&chance, walk, &draft);
     u32 length = write_draft(&draft, bytes);
     ask_every_value(bytes, length, 10 + 2 * below_bound(&chance, draft.e) + 1);
+    make_full_table(&chance, walk, &draft);
+    length = write_draft(&draft, bytes);
+    ask_every_value(bytes, length, length - 2);
+    make_full_table(&chance, walk, &draft);
+    length = write_draft(&draft, bytes);
+    ask_every_value(bytes, length, length - 1);
 }
 
-/* Every value of an entry of the last line: its right one, or its first left
-   one. */
-static void every_entry(int right)
-{
-    u8 bytes[DRAFT_BYTES];
-    struct draft draft;
-    do {
-        make_with_row_and_line(&draft);
-    } while (draft.line[draft.m - 1].p == 0);
-    u32 length = write_draft(&draft, bytes);
-    ask_every_value(bytes, length, right ? length - 1 : length - 1 - draft.line[draft.m - 1].p);
-}
-
-static void every_left(void)
-{
-    every_entry(0);
-}
-
-static void every_right(void)
-{
-    every_entry(1);
-}
-
-static void every_value_of_any(void)
+/* Every value of any byte. */
+static void group_values(void)
 {
     u8 bytes[DRAFT_BYTES];
     u32 length = make_bytes(bytes);
     ask_every_value(bytes, length, below_bound(&chance, length));
 }
 
-/* Bytes by chance: any, or after a good mark and version, or after plausible
-   counts and with bytes that are mostly codes. */
-static void group_garbage(void)
-{
-    u8 bytes[100] = { 0x56, 0x4F, 0x43, 1, 0 };
-    u32 lot = below_bound(&chance, 4);
-    u32 from = lot == 0 ? 0 : 5;
-    for (u32 i = from; i < sizeof bytes; i++) {
-        bytes[i] = (u8)(lot < 2 ? draw(&chance)
-                        : i < 10 ? below_bound(&chance, 4)
-                        : percent(&chance, 50) ? below_bound(&chance, 3)
-                        : 32 * below_bound(&chance, 4) + below_bound(&chance, 3));
-    }
-    ask_any(bytes, percent(&chance, 30) ? below_bound(&chance, 14) : below_bound(&chance, sizeof bytes));
-}
+/* ---- The stream */
 
-/* A set number beyond two bytes: the one long walk. Not asked for where walks
-   are to be short. */
-static void group_long(void)
-{
-    if (short_walk < USUAL_WALK) {
-        return;
-    }
-    u8 bytes[DRAFT_BYTES];
-    struct draft draft;
-    struct question question = { .kind = KIND_SOLVE, .room = 4 };
-    u8 variable = CODE_VARIABLE;
-    draft_start(&draft, between(&chance, 17, 20), 0, 1);
-    add_line(&draft, 1, &variable, CODE_CONSTANT + 16);
-    add_line(&draft, 1, &variable, CODE_CONSTANT + below_bound(&chance, 12));
-    u32 length = write_draft(&draft, bytes);
-    load(&question, bytes, length);
-    question.number = 80000;
-    ask(&question);
-}
+struct group {
+    u32 weight;
+    void (*ask)(void);
+};
+
+static const struct group groups[] = {
+    { 8100, group_table }, { 700, group_garbage }, { 550, group_after }, { 200, group_damage },
+    { 200, group_both },   { 100, group_truncation }, { 50, group_mark }, { 50, group_bounds },
+    { 30, group_values },  { 2, group_long_walk },
+};
 
 static void group_by_chance(void)
 {
-    u32 lot = below_bound(&chance, 10000);
-    if (lot < 8100) {
-        group_table();
-    } else if (lot < 8300) {
-        group_damage();
-    } else if (lot < 8400) {
-        group_truncation();
-    } else if (lot < 8600) {
-        group_damage_and_truncation();
-    } else if (lot < 9150) {
-        group_after();
-    } else if (lot < 9200) {
-        group_bounds();
-    } else if (lot < 9250) {
-        group_mark();
-    } else if (lot < 9280) {
-        every_value_of_any();
-    } else if (lot < 9282) {
-        group_long();
-    } else {
-        group_garbage();
+    u32 all = 0;
+    for (u32 i = 0; i < sizeof groups / sizeof groups[0]; i++) {
+        all += groups[i].weight;
     }
+    u32 lot = below_bound(&chance, all);
+    u32 i = 0;
+    while (lot >= groups[i].weight) {
+        lot -= groups[i++].weight;
+    }
+    groups[i].ask();
 }
 
+/* Each group of limits and damage once, and then groups by chance. */
 static void ask_all(u64 count)
 {
     group_bounds();
@@ -717,10 +473,8 @@ static void ask_all(u64 count)
     group_damage();
     group_truncation();
     group_after();
-    every_filler();
-    every_left();
-    every_right();
-    group_long();
+    group_codes();
+    group_long_walk();
     while (asked < count) {
         group_by_chance();
     }
@@ -729,15 +483,13 @@ static void ask_all(u64 count)
 int main(int words, char **word)
 {
     only_stats = words > 1 && strcmp(word[1], "stats") == 0;
-    u32 first = only_stats ? 2 : 1;
-    u32 given = (u32)words - first;
+    int first = only_stats ? 2 : 1;
+    int given = words - first;
     if (given < 2 || given > 3) {
         fail("usage: ask [stats] SEED COUNT [WALK]");
     }
     chance.state = number_of(word[first]);
-    if (given == 3) {
-        short_walk = (u32)number_of(word[first + 2]);
-    }
+    walk = given == 3 ? (u32)number_of(word[first + 2]) : USUAL_WALK;
     ask_all(number_of(word[first + 1]));
     if (only_stats) {
         put_stats();

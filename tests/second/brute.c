@@ -275,13 +275,6 @@ static int agrees(const struct draft *draft, int *solved)
         && memcmp(output, sets, sizeof sets) == 0;
 }
 
-static void put_count(const char *before, u64 count, const char *after)
-{
-    put_text(before);
-    put_number(count);
-    put_text(after);
-}
-
 int main(int words, char **word)
 {
     struct draft draft;
@@ -305,9 +298,12 @@ int main(int words, char **word)
         }
         solved_tables += (u64)solved;
     }
-    put_count("", tables, " small tables agree with the definitions: ");
-    put_count("", solved_tables, " solved, ");
-    put_count("", tables - solved_tables, " none\n");
+    put_number(tables);
+    put_text(" small tables agree with the definitions: ");
+    put_number(solved_tables);
+    put_text(" solved, ");
+    put_number(tables - solved_tables);
+    put_text(" none\n");
     flush();
     return 0;
 }

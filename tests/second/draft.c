@@ -116,6 +116,19 @@ void add_random_line(struct chance *chance, struct draft *draft, u32 most_left)
     add_line(draft, p, left, random_entry(chance, draft));
 }
 
+void add_easy_lines(struct chance *chance, struct draft *draft, u32 lines, u32 least_left,
+                    u32 most_left)
+{
+    u8 left[DRAFT_LEFT];
+    for (u32 i = 0; i < lines && has_entries(draft); i++) {
+        u32 p = between(chance, least_left, most_left);
+        for (u32 k = 0; k < p; k++) {
+            left[k] = (u8)random_entry(chance, draft);
+        }
+        add_line(draft, p, left, left[below_bound(chance, p)]);
+    }
+}
+
 u32 write_draft(const struct draft *draft, u8 *bytes)
 {
     const u8 header[10] = { 0x56, 0x4F, 0x43, 1, 0, (u8)draft->c, (u8)draft->r, (u8)draft->v,

@@ -65,6 +65,11 @@ int has_entries(const struct draft *draft);
 void add_random_rows(struct chance *chance, struct draft *draft, u32 rows);
 void add_random_line(struct chance *chance, struct draft *draft, u32 most_left);
 
+/* Adds lines that hold under any sets: each has its right entry on the left
+   too. */
+void add_easy_lines(struct chance *chance, struct draft *draft, u32 lines, u32 least_left,
+                    u32 most_left);
+
 /* Writes the table and answers its length. */
 u32 write_draft(const struct draft *draft, u8 *bytes);
 

@@ -7,3 +7,5 @@ pub mod Growth
 pub mod Walk
 pub mod TestLaws
 pub mod ReachLaws
+pub mod Conjuncts
+pub mod OrderLaws

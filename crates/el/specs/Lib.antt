@@ -14,3 +14,5 @@ pub mod Conjuncts
 pub mod OrderLaws
 pub mod NodeLaws
 pub mod OutcomeLaws
+pub mod Rank
+pub mod InducedLaws

@@ -16,3 +16,5 @@ pub mod NodeLaws
 pub mod OutcomeLaws
 pub mod Rank
 pub mod InducedLaws
+pub mod Locality
+pub mod LocalityLaws

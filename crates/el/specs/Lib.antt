@@ -18,3 +18,6 @@ pub mod Rank
 pub mod InducedLaws
 pub mod Locality
 pub mod LocalityLaws
+pub mod Counting
+pub mod CountingLaws
+pub mod GrowthLaws

@@ -1,0 +1,3 @@
+pub mod Solve
+pub mod Grown
+pub mod Demand2

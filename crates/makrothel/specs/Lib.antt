@@ -4,3 +4,4 @@ pub mod Demand2
 pub mod Refusal
 pub mod RefusalLaws
 pub mod Demand1
+pub mod GrownLaws

@@ -87,7 +87,7 @@ module _ (under : ℕ → ℕ → Bool) (t : Table) (γ : Substitution) where
   local-assignment = (
     listTo-length (t .variables) (localSet under t γ),
     listTo-every (t .variables) (localSet under t γ) (λ s. ltb s (2 ^ atoms t))
-        (λ x. lt→ltb (localSet under t γ x) (2 ^ atoms t) (number-lt (atoms t) (λ i. below under (γ x) (atomUnder t γ i)))),
+        (λ x. lt→ltb (localSet under t γ x) (2 ^ atoms t) (number-lt (atoms t) _)),
   )
 
   pub local-is : IsLocal under t γ (localAssignment under t γ)

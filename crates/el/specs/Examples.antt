@@ -8,8 +8,8 @@
 --   deep  == a substitution over names and roles that no table here declares
 use mathlib.Core.List.{List, [], _∷_}
 use Prim.Native.Nat.{ℕ}
-use Rattle.el.specs.Description.{Description, top, name, meet, some}
-use Rattle.el.specs.Table.{Filler, topF, constantF, variableF, Entry, constant, restriction, variable, Row, Line, Table}
+use Rattle.el.specs.Description.{name, meet, some}
+use Rattle.el.specs.Table.{Filler, constantF, variableF, Entry, constant, restriction, variable, Row, Line, Table}
 use Rattle.el.specs.Meaning.{Substitution}
 
 abbrev pub row : ℕ → Filler → Row

@@ -6,19 +6,19 @@
 --   p6-local, p6-local-solves                   == the local assignment of `deep` is X = {A}, and locality says that it solves
 --   p6-more, more-most                          == the tables grow
 --   growth-keeps, growth-back-keeps, ..-solving == growth applied
-use mathlib.Core.Path.{_≡_, refl, sym, ap, subst, _∙_}
-use mathlib.Core.Bool.{Bool, true, false, _&&_, not}
-use mathlib.Core.List.{List, [], _∷_, _++_}
-use Prim.Native.Nat.{ℕ, zero, suc, _^_, _<_, _≤_}
+use mathlib.Core.Path.{_≡_, refl}
+use mathlib.Core.Bool.{true, false, not}
+use mathlib.Core.List.{[], _∷_}
+use Prim.Native.Nat.{ℕ, suc, _^_}
 use native.Mathlib.Omega.{arith}
 use lib.Dec.{T, ltb, ltb→lt, T-not}
 use lib.ListN.{length}
 use Rattle.el.specs.Test.{anyBelow, allBelow, everyOf, bit}
-use Rattle.el.specs.TestLaws.{and-left, true-is, false-not, allBelow-at}
-use Rattle.el.specs.Description.{sameRole, below}
+use Rattle.el.specs.TestLaws.{and-left, false-not, allBelow-at}
+use Rattle.el.specs.Description.{sameRole}
 use Rattle.el.specs.OrderLaws.{sameRole-refl, sameRole-trans}
-use Rattle.el.specs.Table.{Row, Line, Table, rowAt, atoms, declared}
-use Rattle.el.specs.Meaning.{Substitution, holds, makes}
+use Rattle.el.specs.Table.{Table, rowAt, atoms, declared}
+use Rattle.el.specs.Meaning.{holds, makes}
 use Rattle.el.specs.Assignment.{Assignment, setOf, IsAssignment, depends, path, reaches, Acyclic, acyclic, atomUnder, conjoin, setUnder, inducedTo, induced, Solves, solves}
 use Rattle.el.specs.ReachLaws.{acyclic-means}
 use Rattle.el.specs.Locality.{number, listTo, localSet, localAssignment, IsLocal, Unifiable, Solvable}

@@ -10,11 +10,11 @@
 --   below-depth                             == what lies below is at least as deep
 --   sameRole-refl, sameRole-trans           == equality of roles is such a relation
 --   joining-is-wrong                        == two restrictions with one role are not one restriction on the joined fillers
-use mathlib.Core.Path.{_≡_, refl, sym, ap, subst, _∙_}
-use mathlib.Core.Bool.{Bool, true, false, _&&_, _||_}
+use mathlib.Core.Path.{_≡_, refl, sym, ap, subst}
+use mathlib.Core.Bool.{Bool, true, false, _&&_}
 use mathlib.Core.Logic.{_⊎_, inl, inr, _↔_}
 use mathlib.Core.List.{List, [], _∷_, _++_}
-use Prim.Native.Nat.{ℕ, zero, suc, _≤_, _<_, max}
+use Prim.Native.Nat.{ℕ, _≤_, _<_}
 use native.Mathlib.Omega.{arith}
 use lib.Dec.{T, eqb, eqb→eq, eqb-refl}
 use Rattle.el.specs.TestLaws.{or-left, or-right, or-cases, and-make, and-left, and-right}

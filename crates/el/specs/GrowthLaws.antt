@@ -8,17 +8,16 @@
 --
 -- The atom numbers of restrictions move when constants are added. The proofs go through substitutions, which do not speak of them.
 use mathlib.Core.Path.{_≡_, refl, sym, ap, ap₂, subst, _∙_}
-use mathlib.Core.Bool.{Bool, true, false, _&&_}
+use mathlib.Core.Bool.{Bool}
 use mathlib.Core.List.{List, [], _∷_, _++_}
-use Prim.Native.Nat.{ℕ, _<_}
-use lib.Dec.{T, ltb, ltb→lt}
+use Prim.Native.Nat.{ℕ}
+use lib.Dec.{T, ltb→lt}
 use lib.ListN.{length, List·getD-append}
 use Rattle.el.specs.Test.{everyOf}
 use Rattle.el.specs.TestLaws.{and-left, and-right, everyOf-append, everyOf-both}
-use Rattle.el.specs.Description.{Description, meet, below}
+use Rattle.el.specs.Description.{meet, below}
 use Rattle.el.specs.Table.{Entry, constant, restriction, variable, Row, Line, Table, rowAt, rowDeclared, entryDeclared, lineDeclared, declared}
 use Rattle.el.specs.Meaning.{Substitution, rowUnder, entryUnder, leftUnder, holds, makes}
-use Rattle.el.specs.Assignment.{Assignment, induced}
 use Rattle.el.specs.Growth.{Grows}
 use Rattle.el.specs.Locality.{Unifiable, Solvable}
 use Rattle.el.specs.LocalityLaws.{local-iff}

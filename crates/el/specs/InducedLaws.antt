@@ -21,19 +21,17 @@
 --   induced-same        == assignments that give the same sets
 use mathlib.Core.Path.{_≡_, refl, sym, ap, ap₂, subst, _∙_}
 use mathlib.Core.Bool.{Bool, true, false, _&&_, _||_, not}
-use mathlib.Core.Logic.{_⊎_, inl, inr}
-use mathlib.Core.List.{List, [], _∷_}
 use Prim.Native.Nat.{ℕ, zero, suc, _+_, _-_, _≤_, _<_}
 use native.Mathlib.Omega.{arith}
 use native.Mathlib.Nat.{not-suc-le-zero}
 use native.Mathlib.Decide.{ℕ-discrete, decLt}
 use borrow.Author.Tests.{ltb-false, lt-ltb, le-ltb}
-use lib.Dec.{T, eqb, ltb, eqb-refl, T-not}
+use lib.Dec.{T, ltb, eqb-refl, T-not}
 use lib.ListN.{length, List·getD-eq-default}
 use Rattle.el.specs.Test.{anyBelow, allBelow, bit}
 use Rattle.el.specs.TestLaws.{is-true, is-false, true-is, false-not, and-make, anyBelow-hit, allBelow-all, allBelow-at, bit-none}
 use Rattle.el.specs.Description.{Description, top, name, meet, some, hasName, hasSome, below}
-use Rattle.el.specs.Table.{Filler, topF, constantF, variableF, Row, Table, rowAt, atoms, declared}
+use Rattle.el.specs.Table.{Filler, topF, constantF, variableF, Table, rowAt, atoms, declared}
 use Rattle.el.specs.Meaning.{Substitution, fillerUnder, rowUnder}
 use Rattle.el.specs.Assignment.{Assignment, setOf, isVariable, depends, Reaches, once, then, reaches, acyclic, atomUnder, conjoin, setUnder, inducedTo, induced}
 use Rattle.el.specs.ReachLaws.{depends-declared, depends-reaches, reaches-trans}

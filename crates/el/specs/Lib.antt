@@ -21,3 +21,5 @@ pub mod LocalityLaws
 pub mod Counting
 pub mod CountingLaws
 pub mod GrowthLaws
+pub mod Examples
+pub mod Instances

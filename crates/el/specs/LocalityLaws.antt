@@ -13,8 +13,8 @@
 --   local-iff                == some substitution exactly if some solving assignment
 --   solves-means             == the test `solves` says what Solves says
 use mathlib.Core.Path.{_≡_, refl, sym, ap, subst, _∙_}
-use mathlib.Core.Bool.{Bool, true, false, _&&_, _||_, not}
-use mathlib.Core.Logic.{_⊎_, inl, inr, _↔_}
+use mathlib.Core.Bool.{Bool, true, false, _&&_, _||_}
+use mathlib.Core.Logic.{inl, inr, _↔_}
 use mathlib.Core.List.{List, [], _∷_}
 use Prim.Native.Nat.{ℕ, zero, suc, _+_, _-_, _*_, _^_, _/_, _%_, _≤_, _<_}
 use native.Mathlib.Omega.{arith}
@@ -22,14 +22,14 @@ use native.Mathlib.Nat.{not-suc-le-zero, le-of-suc-le-suc, pow-succ'}
 use native.Mathlib.Decide.{decLt}
 use lib.Dec.{T, ltb, eqb, eqb→eq, ltb→lt, lt→ltb}
 use lib.ListN.{length, getD, List·getD-eq-default}
-use Rattle.el.specs.Test.{anyBelow, everyOf, bit}
-use Rattle.el.specs.TestLaws.{is-true, true-is, false-not, or-left, or-right, or-cases, and-make, and-left, and-right, anyBelow-found, everyOf-at, everyOf-both, bit-none, bit-first, bit-next}
-use Rattle.el.specs.Description.{Description, top, name, meet, some, hasName, hasSome, below}
+use Rattle.el.specs.Test.{everyOf, bit}
+use Rattle.el.specs.TestLaws.{false-not, or-left, or-right, or-cases, and-make, and-left, and-right, anyBelow-found, everyOf-at, everyOf-both, bit-none, bit-first, bit-next}
+use Rattle.el.specs.Description.{Description, top, name, meet, some, hasName, below}
 use Rattle.el.specs.Conjuncts.{depth}
 use Rattle.el.specs.OrderLaws.{below-left, below-right, below-trans, below-depth}
-use Rattle.el.specs.Table.{Filler, topF, constantF, variableF, Entry, constant, restriction, variable, Row, Line, Table, rowAt, atoms, fillerDeclared, rowDeclared, entryDeclared, lineDeclared, declared}
+use Rattle.el.specs.Table.{Filler, topF, constantF, variableF, Entry, constant, restriction, variable, Line, Table, rowAt, atoms, fillerDeclared, rowDeclared, entryDeclared, lineDeclared, declared}
 use Rattle.el.specs.Meaning.{Substitution, fillerUnder, rowUnder, entryUnder, leftUnder, holds, makes}
-use Rattle.el.specs.Assignment.{Assignment, setOf, IsAssignment, isVariable, depends, Reaches, once, then, Acyclic, acyclic, atomUnder, conjoin, setUnder, induced, Solves, solves}
+use Rattle.el.specs.Assignment.{Assignment, setOf, IsAssignment, isVariable, depends, Reaches, once, then, Acyclic, acyclic, atomUnder, setUnder, induced, Solves, solves}
 use Rattle.el.specs.ReachLaws.{acyclic-means}
 use Rattle.el.specs.Rank.{one}
 use Rattle.el.specs.InducedLaws.{conjoin-member, conjoin-greatest, atomUnder-constant, atomUnder-row, induced-equation}
@@ -87,7 +87,7 @@ module _ (under : ℕ → ℕ → Bool) (t : Table) (γ : Substitution) where
   local-assignment = (
     listTo-length (t .variables) (localSet under t γ),
     listTo-every (t .variables) (localSet under t γ) (λ s. ltb s (2 ^ atoms t))
-        (λ x. lt→ltb (localSet under t γ x) (2 ^ atoms t) (number-lt (atoms t) (λ i. below under (γ x) (atomUnder t γ i)))),
+        (λ x. lt→ltb (localSet under t γ x) (2 ^ atoms t) (number-lt (atoms t) _)),
   )
 
   pub local-is : IsLocal under t γ (localAssignment under t γ)
@@ -290,6 +290,10 @@ module _ (under : ℕ → ℕ → Bool) (under-refl : (r : ℕ) → T (under r r
 ----------------------------------------------------------------------------------------------------
 -- The theorems
 
+pub solving-substitution : (under : ℕ → ℕ → Bool) (t : Table) (a : Assignment) → Solves under t a → T (makes under t (induced t a))
+unfolding Solves
+solving-substitution under t a s = s .1
+
 module _ (under : ℕ → ℕ → Bool) (under-refl : (r : ℕ) → T (under r r)) (under-trans : (r s u : ℕ) → T (under r s) → T (under s u) → T (under r u)) (t : Table) (known : T (declared t)) where
   -- for every substitution, of any depth and over any names, that makes every line true there is an acyclic assignment that solves the table:
   -- the one whose set of X holds exactly the non-variable atoms D with γ(X) below γ(D)
@@ -306,14 +310,10 @@ module _ (under : ℕ → ℕ → Bool) (under-refl : (r : ℕ) → T (under r r
         (local-acyclic under t γ (localAssignment under t γ) short is, local-makes under under-refl under-trans t known γ (localAssignment under t γ) short is m),
       )
 
-  pub solving-substitution : (a : Assignment) → Solves under t a → T (makes under t (induced t a))
-  unfolding Solves
-  solving-substitution a s = s .1
-
   -- some substitution makes every line true exactly if some assignment solves
   pub local-iff : Unifiable under t ↔ Solvable under t
   unfolding Unifiable Solvable
-  local-iff = ((λ u. let l = locality (u .0) (u .1) in (l .0, l .1, l .3)), λ s. (induced t (s .0), solving-substitution (s .0) (s .2)))
+  local-iff = ((λ u. let l = locality (u .0) (u .1) in (l .0, l .1, l .3)), λ s. (induced t (s .0), solving-substitution under t (s .0) (s .2)))
 
 pub solves-means : (under : ℕ → ℕ → Bool) (t : Table) → T (declared t) → (a : Assignment) → T (solves under t a) ↔ Solves under t a
 unfolding solves Solves

@@ -14,10 +14,10 @@
 --   anyOf-.., everyOf-..                    == the same over a list, by places; `-append` over two lists; `everyOf-map`, `everyOf-both` along an implication
 --   bit-none, bit-first, bit-next           == bits of 0, bit 0, and the bits after it
 use mathlib.Core.Path.{_≡_, refl, sym, ap, ap₂, subst, _∙_}
-use mathlib.Core.Bool.{Bool, true, false, _&&_, _||_, not}
+use mathlib.Core.Bool.{Bool, true, false, _&&_, _||_}
 use mathlib.Core.Logic.{_⊎_, inl, inr}
 use mathlib.Core.List.{List, [], _∷_, _++_}
-use Prim.Native.Nat.{ℕ, zero, suc, _+_, _-_, _^_, _/_, _%_, _≤_, _<_}
+use Prim.Native.Nat.{ℕ, zero, suc, _+_, _^_, _/_, _%_, _<_}
 use native.Mathlib.Omega.{arith}
 use native.Mathlib.Nat.{zero-div, div-one, div-div-eq-div-mul, pow-succ', not-suc-le-zero, le-of-suc-le-suc}
 use native.Mathlib.Numerals.{add-one}

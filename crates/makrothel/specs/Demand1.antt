@@ -90,7 +90,7 @@ module _ (s : List ℕ) (b : ℕ) (out : List ℕ) where
     short : Row s b out (refusedAs 7 (4 * t .variables) out)
     short = record { row = subst (λ (u : Table). NumberAt s b 7 0 (4 * u .variables)) same too-short; kept = λ _. refl; behind = λ z. absurd (let y : ⊥ = omega arith in y) }
 
-    answer-short : length out < 4 * t .variables → answer s b out ≡ refusedAs 7 (4 * t .variables) out
+    pub answer-short : length out < 4 * t .variables → answer s b out ≡ refusedAs 7 (4 * t .variables) out
     unfolding answer tableAs
     answer-short l = ap (λ (r : Reading). readingAs r b out) e ∙ rw (lt-ltb (length out) (4 * t .variables) l, tableAs)
 

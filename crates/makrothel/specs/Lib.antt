@@ -5,3 +5,4 @@ pub mod Refusal
 pub mod RefusalLaws
 pub mod Demand1
 pub mod GrownLaws
+pub mod Demand3

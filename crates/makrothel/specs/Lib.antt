@@ -6,3 +6,4 @@ pub mod RefusalLaws
 pub mod Demand1
 pub mod GrownLaws
 pub mod Demand3
+pub mod Cases

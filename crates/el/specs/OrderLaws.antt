@@ -128,6 +128,54 @@ module _ (under : ℕ → ℕ → Bool) where
           (hasSome-means s (λ E. below under E D) C .0 t)
       only t q (inr h) = absurd h
 
+  -- and no other relation does
+  pub corollary-1-only : (R : Description → Description → Type 0) → ((C D : Description) → R C D ↔ Corollary-1 under R C D) → (C D : Description) → R C D ↔ T (below under C D)
+  unfolding Corollary-1 Serves
+  corollary-1-only R f C top = ((λ r. tt), λ t. f C top .1 ((λ a m. absurd m), λ q m. absurd m))
+  corollary-1-only R f C (name b) = ((λ r. hasName-means b C .1 (f C (name b) .0 r .0 b (inl refl))), λ t. f C (name b) .1 (only t, λ q m. absurd m))
+    where
+      only : T (hasName b C) → (a : ℕ) → Among a (b ∷ []) → Among a (names C)
+      only t a (inl e) = subst (λ (k : ℕ). Among k (names C)) (sym e) (hasName-means b C .0 t)
+      only t a (inr h) = absurd h
+  corollary-1-only R f C (meet D E) = go (corollary-1-only R f C D) (corollary-1-only R f C E)
+    where
+      go : (R C D ↔ T (below under C D)) → (R C E ↔ T (below under C E)) → R C (meet D E) ↔ T (below under C (meet D E))
+      go g h = (there, back)
+        where
+          there : R C (meet D E) → T (below under C D && below under C E)
+          there r =
+              let c = f C (meet D E) .0 r in
+              and-make (below under C D) (below under C E)
+              (g .0 (f C D .1 ((λ a m. c .0 a (among-left a (names D) (names E) m)), λ q m. c .1 q (among-left q (restrictions D) (restrictions E) m))))
+              (h .0 (f C E .1 ((λ a m. c .0 a (among-right a (names D) (names E) m)), λ q m. c .1 q (among-right q (restrictions D) (restrictions E) m))))
+
+          back : T (below under C D && below under C E) → R C (meet D E)
+          back t =
+              let d = f C D .0 (g .1 (and-left (below under C D) (below under C E) t)) in
+              let e = f C E .0 (h .1 (and-right (below under C D) (below under C E) t)) in
+              f C (meet D E) .1 (
+                (λ a m. elim (among-cases a (names D) (names E) m) [ inl u ↦ d .0 a u | inr u ↦ e .0 a u ]),
+                λ q m. elim (among-cases q (restrictions D) (restrictions E) m) [ inl u ↦ d .1 q u | inr u ↦ e .1 q u ],
+              )
+  corollary-1-only R f C (some s D) = go (λ E. corollary-1-only R f E D)
+    where
+      go : ((E : Description) → R E D ↔ T (below under E D)) → R C (some s D) ↔ T (below under C (some s D))
+      go g = (there, back)
+        where
+          there : R C (some s D) → T (below under C (some s D))
+          there r =
+              let q = f C (some s D) .0 r .1 (record { role = s; filler = D }) (inl refl) in
+              hasSome-means s (λ E. below under E D) C .1 (q .0, q .1, q .2, g (q .0 .filler) .0 (q .3))
+
+          only : T (below under C (some s D)) → (q : Restriction) → Among q (record { role = s; filler = D } ∷ []) → Serves under (q .role) (λ E. R E (q .filler)) C
+          only t q (inl e) =
+              let p = hasSome-means s (λ E. below under E D) C .0 t in
+              subst (λ (q : Restriction). Serves under (q .role) (λ E. R E (q .filler)) C) (sym e) (p .0, p .1, p .2, g (p .0 .filler) .1 (p .3))
+          only t q (inr h) = absurd h
+
+          back : T (below under C (some s D)) → R C (some s D)
+          back t = f C (some s D) .1 ((λ a m. absurd m), only t)
+
   ----------------------------------------------------------------------------------------------------
   -- Conjunctions
 

@@ -7,7 +7,7 @@
 --   turn-start, turn-stop, turn-next, turn-end == the turns of a loop over many of a kind
 --   mark-is, version-is          == the tests of the mark and the version
 --   header-.., row-.., entry-.., line-.., body-.., check-.. == each answer of the function so named
---   start-here, start-on         == the turns of the loop over the lines' beginnings
+--   start-..                     == the loop over the places where lines begin
 use mathlib.Core.Path.{_≡_, refl, sym, ap, subst, _∙_}
 use mathlib.Core.Bool.{Bool, true, false, _&&_, not, cond, true≢false}
 use mathlib.Core.List.{List, [], _∷_}
@@ -175,7 +175,7 @@ module _ {A : Type 0} (one : ℕ → Read A) (many : ℕ → ℕ → Read (List 
   turn-next count k at next h q =
       fewer count k at h
       ∙ then-next (one at) (λ a next. andThen (many (count - (k + 1)) next) (λ l end. got (a ∷ l) end)) next (stepOf (many (count - (k + 1)) next)) q
-        (λ a. then-last (many (count - (k + 1)) next) (λ l. a ∷ l))
+      (λ a. then-last (many (count - (k + 1)) next) (λ l. a ∷ l))
 
 ------------------------------------------------------------------ the header
 
@@ -475,13 +475,13 @@ module _ (s : List ℕ) (ok : T (isReadable (reading s))) where
   pub header-there : 10 ≤ length s
   header-there = layout s ok .header-in
 
-  pub start-first : 10 + 2 * byteAt s 8 ≡ lineStart s 0
+  pub start-first : (e : ℕ) → e ≡ byteAt s 8 → 10 + 2 * e ≡ lineStart s 0
   unfolding lineStart
-  start-first = refl
+  start-first e q = ap (λ (k : ℕ). 10 + 2 * k) q
 
-  pub start-next : (i : ℕ) → lineStart s i + byteAt s (lineStart s i) + 2 ≡ lineStart s (i + 1)
+  pub start-room : (i at : ℕ) → at ≡ lineStart s i → i < byteAt s 9 → at + byteAt s at + 2 ≤ length s
+  start-room i at q w = subst (λ (x : ℕ). x + byteAt s x + 2 ≤ length s) (sym q) (layout s ok .line-in i w)
+
+  pub start-next : (i at p : ℕ) → at ≡ lineStart s i → p ≡ byteAt s at → at + p + 2 ≡ lineStart s (i + 1)
   unfolding lineStart
-  start-next i = rw add-one refl
-
-  pub start-in : (i : ℕ) → i < byteAt s 9 → lineStart s i + byteAt s (lineStart s i) + 2 ≤ length s
-  start-in i w = layout s ok .line-in i w
+  start-next i at p q e = ap (λ (k : ℕ). at + k + 2) e ∙ ap (λ (x : ℕ). x + byteAt s x + 2) q ∙ ap (lineStart s) (sym (add-one i))

@@ -10,25 +10,39 @@ ghost use Rattle.table.specs.Layout.{lineStart};
 
 // The bytes that hold the five counts, and the length of the header.
 pub const CONSTANTS: usize = 5;
+
 pub const ROLES: usize = 6;
+
 pub const VARIABLES: usize = 7;
+
 pub const RESTRICTIONS: usize = 8;
+
 pub const LINES: usize = 9;
+
 pub const HEADER: usize = 10;
 
 // The bounds.
 pub const MAX_ATOMS: usize = 24;
+
 pub const MAX_ROLES: u8 = 16;
+
 pub const MAX_VARIABLES: u8 = 12;
+
 pub const MAX_LINES: u8 = 64;
+
 pub const MAX_LEFT: usize = 8;
 
 // The numbers of the refusals.
 pub const ENDS_EARLY: u32 = 1;
+
 pub const WRONG_MARK: u32 = 2;
+
 pub const WRONG_VERSION: u32 = 3;
+
 pub const OVER_BOUND: u32 = 4;
+
 pub const NOT_ALLOWED: u32 = 5;
+
 pub const BYTES_AFTER: u32 = 6;
 
 // What a code byte stands for, by its range alone.
@@ -187,7 +201,12 @@ pub fn read_entry(table: &[u8], at: usize) -> Step
     if table.len() <= at {
         return Step::Stop(ENDS_EARLY, table.len());
     }
-    if !entry_ok(table[at], table[CONSTANTS], table[RESTRICTIONS], table[VARIABLES]) {
+    if !entry_ok(
+        table[at],
+        table[CONSTANTS],
+        table[RESTRICTIONS],
+        table[VARIABLES],
+    ) {
         return Step::Stop(NOT_ALLOWED, at);
     }
     Step::Next(at + 1)

@@ -1,66 +1,58 @@
+-- `table::line_start` meets its contract. The invariant: `at` is where line i begins; the layout of a readable table keeps it inside.
+-- The measure is how many lines are left.
+use mathlib.Core.Path.{_≡_, ap, _∙_}
+use Prim.Native.Nat.{_-_, _≤_}
+use native.Mathlib.Omega.{arith}
+use borrow.Author.Needs.{needs}
+use Rattle.table.specs.Layout.{lineStart}
+use Rattle.table.proofs.Laws.{header-there, start-first, start-room, start-next}
 use Rattle.table.proofs.line_start.Statement.{statement}
 use Rattle.table.proofs.line_start.Tie as tie
-use Rattle.table.proofs.line_start.Reads as reads
-use Rattle.table.proofs.line_start.Lts as lts
-use Rattle.table.proofs.wide.Reads as wide-reads
 
 abbrev Inv-loop : tie.InvT-loop
-Inv-loop table n at₀ i₀ at i = ?
+Inv-loop table n at₀ i₀ at i = (i ≤ n) × (at ≡ lineStart table i)
 
 abbrev μ-loop : tie.MeasureT-loop
-μ-loop table n at₀ i₀ at i = ?
+μ-loop table n at₀ i₀ at i = n - i
 
--- src/lib.rt:293:36
 shared-slice-read-wide : tie.Need-shared-slice-read-wide Inv-loop μ-loop
-shared-slice-read-wide c = ?
+shared-slice-read-wide c = omega (arith, header-there _ (c .before .before .pre .0))
 
--- src/lib.rt:293:31
 wide-requires : tie.Need-wide-requires Inv-loop μ-loop
-wide-requires c κs = ?
+wide-requires c κs = search needs
 
--- src/lib.rt:293:27
 mul-at : tie.Need-mul-at Inv-loop μ-loop
-mul-at c = ?
+mul-at c = omega (arith, c .wide .ensures, c .before .shared-slice-known2 .given 8)
 
--- src/lib.rt:293:18
 add-at : tie.Need-add-at Inv-loop μ-loop
-add-at c = ?
+add-at c = omega (arith, c .wide .ensures, c .before .shared-slice-known2 .given 8)
 
--- src/lib.rt:295:5
 loop-holds : tie.Need-loop-holds Inv-loop μ-loop
-loop-holds c = ?
+loop-holds c = (omega arith, start-first _ (c .before .before .before .pre .0) _ (c .wide .ensures))
 
--- src/lib.rt:296:24
 shared-slice-read-wide-2 : tie.Need-shared-slice-read-wide-2 Inv-loop μ-loop
-shared-slice-read-wide-2 c = ?
+shared-slice-read-wide-2 c = omega (arith, start-room _ (c .before .before .before .before .before .before .pre .0) _ _ (c .before .before .loop .inv .1) (omega arith))
 
--- src/lib.rt:296:19
 wide-requires-2 : tie.Need-wide-requires-2 Inv-loop μ-loop
-wide-requires-2 c κs = ?
+wide-requires-2 c κs = search needs
 
--- src/lib.rt:296:14
 add-at-2 : tie.Need-add-at-2 Inv-loop μ-loop
-add-at-2 c = ?
+add-at-2 c = omega (arith, c .wide2 .ensures, start-room _ (c .before .before .before .before .before .before .before .pre .0) _ _ (c .before .before .before .loop .inv .1) (omega arith))
 
--- src/lib.rt:296:14
 add-at-3 : tie.Need-add-at-3 Inv-loop μ-loop
-add-at-3 c = ?
+add-at-3 c = omega (arith, c .wide2 .ensures, start-room _ (c .before .before .before .before .before .before .before .pre .0) _ _ (c .before .before .before .loop .inv .1) (omega arith))
 
--- src/lib.rt:297:9
 add-i : tie.Need-add-i Inv-loop μ-loop
-add-i c = ?
+add-i c = omega arith
 
--- src/lib.rt:295:5
 loop-less : tie.Need-loop-less Inv-loop μ-loop
-loop-less c = ?
+loop-less c = omega arith
 
--- src/lib.rt:295:5
 loop-again : tie.Need-loop-again Inv-loop μ-loop
-loop-again c = ?
+loop-again c = (omega arith, start-next _ (c .before .before .before .before .before .before .before .pre .0) _ _ _ (c .before .before .before .loop .inv .1) (c .wide2 .ensures))
 
--- src/lib.rt:289:1
 returns : tie.Need-returns Inv-loop μ-loop
-returns c = ?
+returns c = let e : c .before .loop .i ≡ c .before .before .before .before .before .args .n = omega arith in c .before .loop .inv .1 ∙ ap (lineStart _) e
 
 pub line-start-spec : {M : Type 1} → statement M
 line-start-spec =

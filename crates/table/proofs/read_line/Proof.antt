@@ -1,56 +1,41 @@
-use mathlib.Core.Path.{_≡_, sym, _∙_}
+-- `table::read_line` meets its contract: a law for each refusal, in order, and one for the right entry after the left ones.
+use mathlib.Core.Path.{sym, _∙_}
 use native.Mathlib.Omega.{arith}
-use Rattle.table.proofs.Laws.{line-short, line-left, line-right, line-stop}
 use borrow.Author.Needs.{needs}
+use Rattle.table.proofs.Laws.{line-short, line-left, line-right, line-stop}
 use Rattle.table.proofs.read_line.Statement.{statement}
 use Rattle.table.proofs.read_line.Tie as tie
-use Rattle.table.proofs.read_line.Reads as reads
-use Rattle.table.proofs.read_line.Lts as lts
-use Rattle.table.proofs.read_entries.Reads as read-entries-reads
-use Rattle.table.proofs.read_entry.Reads as read-entry-reads
-use Rattle.table.proofs.wide.Reads as wide-reads
 
--- src/lib.rt:223:9
 returns : tie.Need-returns
 returns c = line-short _ _ _ (c .if1 .taken)
 
--- src/lib.rt:225:18
 shared-slice-read-wide : tie.Need-shared-slice-read-wide
 shared-slice-read-wide c = search needs
 
--- src/lib.rt:225:9
 wide-requires : tie.Need-wide-requires
 wide-requires c κs = search needs
 
--- src/lib.rt:227:9
 returns-2 : tie.Need-returns-2
 returns-2 c = line-left _ _ _ (omega arith) (omega (arith, c .before .wide .ensures))
 
--- src/lib.rt:229:34
 add-read-entries : tie.Need-add-read-entries
 add-read-entries c = search needs
 
--- src/lib.rt:229:11
 read-entries-requires : tie.Need-read-entries-requires
 read-entries-requires c κs = search needs
 
--- src/lib.rt:230:20
 enum-known-next : tie.Need-enum-known-next
 enum-known-next c = search needs
 
--- src/lib.rt:230:29
 read-entry-requires : tie.Need-read-entry-requires
 read-entry-requires c κs = search needs
 
--- src/lib.rt:231:20
 enum-known-number : tie.Need-enum-known-number
 enum-known-number c = search needs
 
--- src/lib.rt:218:1
 returns-3 : tie.Need-returns-3
 returns-3 c = c .read-entry .ensures ∙ line-right _ _ _ (omega arith) (omega (arith, c .before .before .before .before .before .before .wide .ensures)) _ (c .before .before .before .before .before .before .wide .ensures) _ (sym (c .before .before .before .before .read-entries .ensures) ∙ c .before .before .next .given .1)
 
--- src/lib.rt:218:1
 returns-4 : tie.Need-returns-4
 returns-4 c = line-stop _ _ _ (omega arith) (omega (arith, c .before .before .before .before .before .wide .ensures)) _ (c .before .before .before .before .before .wide .ensures) _ _ (sym (c .before .before .before .read-entries .ensures) ∙ c .before .number .given .1)
 

@@ -1,71 +1,54 @@
-use borrow.Author.Tests.{not-true, not-false}
-use mathlib.Core.Path.{_≡_, sym, _∙_}
+-- `table::read_row` meets its contract: a law for each refusal, in order, and one for the row that is read.
+use mathlib.Core.Path.{sym, _∙_}
 use native.Mathlib.Omega.{arith}
-use Rattle.table.proofs.Laws.{row-short, row-role, row-half, row-filler, row-all}
+use borrow.Author.Tests.{not-true, not-false}
 use borrow.Author.Needs.{needs}
+use Rattle.table.proofs.Laws.{row-short, row-role, row-half, row-filler, row-all}
 use Rattle.table.proofs.read_row.Statement.{statement}
 use Rattle.table.proofs.read_row.Tie as tie
-use Rattle.table.proofs.read_row.Reads as reads
-use Rattle.table.proofs.read_row.Lts as lts
-use Rattle.table.proofs.filler_ok.Reads as filler-ok-reads
 
--- src/lib.rt:147:9
 returns : tie.Need-returns
 returns c = row-short _ _ _ (c .if1 .taken)
 
--- src/lib.rt:149:8
 shared-slice-read-if2 : tie.Need-shared-slice-read-if2
 shared-slice-read-if2 c = search needs
 
--- src/lib.rt:149:24
 shared-slice-read-if2-2 : tie.Need-shared-slice-read-if2-2
 shared-slice-read-if2-2 c = search needs
 
--- src/lib.rt:150:9
 returns-2 : tie.Need-returns-2
 returns-2 c = row-role _ _ _ (omega arith) (c .if2 .taken)
 
--- src/lib.rt:152:23
 add-if3 : tie.Need-add-if3
 add-if3 c = search needs
 
--- src/lib.rt:153:9
 returns-3 : tie.Need-returns-3
 returns-3 c = row-half _ _ _ (omega arith) (c .before .if2 .left) (c .if3 .taken)
 
--- src/lib.rt:155:25
 add-filler-ok : tie.Need-add-filler-ok
 add-filler-ok c = search needs
 
--- src/lib.rt:155:19
 shared-slice-read-filler-ok : tie.Need-shared-slice-read-filler-ok
 shared-slice-read-filler-ok c = search needs
 
--- src/lib.rt:155:34
 shared-slice-read-filler-ok-2 : tie.Need-shared-slice-read-filler-ok-2
 shared-slice-read-filler-ok-2 c = search needs
 
--- src/lib.rt:155:52
 shared-slice-read-filler-ok-3 : tie.Need-shared-slice-read-filler-ok-3
 shared-slice-read-filler-ok-3 c = search needs
 
--- src/lib.rt:155:9
 filler-ok-requires : tie.Need-filler-ok-requires
 filler-ok-requires c κs = search needs
 
--- src/lib.rt:156:40
 add-t17 : tie.Need-add-t17
 add-t17 c = search needs
 
--- src/lib.rt:156:9
 returns-4 : tie.Need-returns-4
 returns-4 c = row-filler _ _ _ (omega arith) (c .before .before .before .before .before .before .if2 .left) (omega arith) (sym (c .before .filler-ok .ensures) ∙ not-true _ (c .if4 .taken))
 
--- src/lib.rt:158:16
 add-t10 : tie.Need-add-t10
 add-t10 c = search needs
 
--- src/lib.rt:142:1
 returns-5 : tie.Need-returns-5
 returns-5 c = row-all _ _ _ (omega arith) (c .before .before .before .before .before .before .if2 .left) (omega arith) (sym (c .before .filler-ok .ensures) ∙ not-false _ (c .if4 .left))
 

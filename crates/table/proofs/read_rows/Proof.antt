@@ -1,14 +1,13 @@
+-- `table::read_rows` meets its contract. The invariant: what is left to read from here is what there was to read from the start;
+-- the measure is how many rows are left.
 use mathlib.Core.Path.{_≡_, sym, _∙_}
-use native.Mathlib.Omega.{arith}
 use Prim.Native.Nat.{_-_, _≤_}
+use native.Mathlib.Omega.{arith}
 use Rattle.table.specs.Reading.{headerOf, readRows}
 use Rattle.table.specs.Step.{stepOf}
 use Rattle.table.proofs.Laws.{rows-start, rows-end, rows-stop, rows-next}
 use Rattle.table.proofs.read_rows.Statement.{statement}
 use Rattle.table.proofs.read_rows.Tie as tie
-use Rattle.table.proofs.read_rows.Reads as reads
-use Rattle.table.proofs.read_rows.Lts as lts
-use Rattle.table.proofs.read_row.Reads as read-row-reads
 
 abbrev Inv-loop : tie.InvT-loop
 Inv-loop table count from at₀ k₀ at k = (k ≤ count) × (stepOf (readRows table (headerOf table) count from) ≡ stepOf (readRows table (headerOf table) (count - k) at))
@@ -16,39 +15,30 @@ Inv-loop table count from at₀ k₀ at k = (k ≤ count) × (stepOf (readRows t
 abbrev μ-loop : tie.MeasureT-loop
 μ-loop table count from at₀ k₀ at k = count - k
 
--- src/lib.rt:168:5
 loop-holds : tie.Need-loop-holds Inv-loop μ-loop
 loop-holds c = (omega arith, rows-start _ _ _ _)
 
--- src/lib.rt:169:15
 read-row-requires : tie.Need-read-row-requires Inv-loop μ-loop
 read-row-requires c κs = omega arith
 
--- src/lib.rt:170:24
 enum-known-next : tie.Need-enum-known-next Inv-loop μ-loop
 enum-known-next c = c .match .keys1
 
--- src/lib.rt:173:24
 enum-known-number : tie.Need-enum-known-number Inv-loop μ-loop
 enum-known-number c = c .match .keys2
 
--- src/lib.rt:174:17
 returns : tie.Need-returns Inv-loop μ-loop
 returns c = sym (c .before .before .before .before .before .loop .inv .1 ∙ rows-stop _ _ _ _ _ _ _ (omega arith) (sym (c .before .before .before .read-row .ensures) ∙ c .before .number .given .1))
 
--- src/lib.rt:177:9
 add-k : tie.Need-add-k Inv-loop μ-loop
 add-k c = omega arith
 
--- src/lib.rt:168:5
 loop-less : tie.Need-loop-less Inv-loop μ-loop
 loop-less c = omega arith
 
--- src/lib.rt:168:5
 loop-again : tie.Need-loop-again Inv-loop μ-loop
 loop-again c = (omega arith, c .before .before .before .before .before .loop .inv .1 ∙ rows-next _ _ _ _ _ _ (omega arith) (sym (c .before .before .before .read-row .ensures) ∙ c .before .next .given .1))
 
--- src/lib.rt:162:1
 returns-2 : tie.Need-returns-2 Inv-loop μ-loop
 returns-2 c = sym (c .before .loop .inv .1 ∙ rows-end _ _ _ _ _ (omega arith))
 

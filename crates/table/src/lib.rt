@@ -104,7 +104,8 @@ pub fn entry_ok(code: u8, c: u8, e: u8, v: u8) -> bool
     }
 }
 
-fn wide(x: u8) -> usize
+// A byte as a place or a count.
+pub fn wide(x: u8) -> usize
     ensures { λ r. ⌜ r ≡ x ⌝ }
 {
     x as usize

@@ -46,19 +46,19 @@ returns-2 : tie.Need-returns-2
 returns-2 c = line-over _ (sym (c .before .before .before .before .before .before .check .ensures) ∙ c .before .before .before .before .enum-told2 .given .1) _ _ (c .before .before .count .ensures) (c .before .if1 .taken)
 
 line-start-requires : tie.Need-line-start-requires
-line-start-requires c κs = (readable-is _ (sym (c .before .before .before .before .before .check .ensures) ∙ c .before .before .before .enum-told2 .given .1), omega (arith, c .before .count .ensures))
+line-start-requires c κs = (readable-is _ (sym (c .before .before .before .before .before .check .ensures) ∙ c .before .before .before .enum-told2 .given .1), omega arith)
 
 shared-slice-read-wide : tie.Need-shared-slice-read-wide
-shared-slice-read-wide c = omega (arith, line-room _ (sym (c .before .before .before .before .before .before .before .check .ensures) ∙ c .before .before .before .before .before .enum-told2 .given .1) _ _ (omega (arith, c .before .before .before .count .ensures)) (c .before .line-start .ensures))
+shared-slice-read-wide c = omega (arith, line-room _ (sym (c .before .before .before .before .before .before .before .check .ensures) ∙ c .before .before .before .before .before .enum-told2 .given .1) _ _ (omega arith) (c .before .line-start .ensures))
 
 wide-requires : tie.Need-wide-requires
 wide-requires c κs = search needs
 
 add-end : tie.Need-add-end
-add-end c = omega (arith, c .wide .ensures, line-room _ (sym (c .before .before .before .before .before .before .before .before .check .ensures) ∙ c .before .before .before .before .before .before .enum-told2 .given .1) _ _ (omega (arith, c .before .before .before .before .count .ensures)) (c .before .before .line-start .ensures))
+add-end c = omega (arith, line-room _ (sym (c .before .before .before .before .before .before .before .before .check .ensures) ∙ c .before .before .before .before .before .before .enum-told2 .given .1) _ _ (omega arith) (c .before .before .line-start .ensures))
 
 add-end-2 : tie.Need-add-end-2
-add-end-2 c = omega (arith, c .wide .ensures, line-room _ (sym (c .before .before .before .before .before .before .before .before .check .ensures) ∙ c .before .before .before .before .before .before .enum-told2 .given .1) _ _ (omega (arith, c .before .before .before .before .count .ensures)) (c .before .before .line-start .ensures))
+add-end-2 c = omega (arith, line-room _ (sym (c .before .before .before .before .before .before .before .before .check .ensures) ∙ c .before .before .before .before .before .before .enum-told2 .given .1) _ _ (omega arith) (c .before .before .line-start .ensures))
 
 sub-result-3 : tie.Need-sub-result-3
 sub-result-3 c = search needs
@@ -67,10 +67,10 @@ part-result-start-3 : tie.Need-part-result-start-3
 part-result-start-3 c = search needs
 
 part-result-end-3 : tie.Need-part-result-end-3
-part-result-end-3 c = omega (arith, c .wide .ensures, line-room _ (sym (c .before .before .before .before .before .before .before .before .check .ensures) ∙ c .before .before .before .before .before .before .enum-told2 .given .1) _ _ (omega (arith, c .before .before .before .before .count .ensures)) (c .before .before .line-start .ensures))
+part-result-end-3 c = omega (arith, line-room _ (sym (c .before .before .before .before .before .before .before .before .check .ensures) ∙ c .before .before .before .before .before .before .enum-told2 .given .1) _ _ (omega arith) (c .before .before .line-start .ensures))
 
 returns-3 : tie.Need-returns-3
-returns-3 c = line-there _ (sym (c .before .before .before .before .before .before .before .before .before .check .ensures) ∙ c .before .before .before .before .before .before .before .enum-told2 .given .1) _ _ _ (omega (arith, c .before .before .before .before .before .count .ensures)) (c .before .before .before .line-start .ensures) (c .before .wide .ensures)
+returns-3 c = line-there _ (sym (c .before .before .before .before .before .before .before .before .before .check .ensures) ∙ c .before .before .before .before .before .before .before .enum-told2 .given .1) _ _ _ (omega arith) (c .before .before .before .line-start .ensures) (c .before .wide .ensures)
 
 pub line-spec : {M : Type 1} → statement M
 line-spec =

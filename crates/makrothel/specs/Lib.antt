@@ -1,9 +1,11 @@
+pub mod Answer
+pub mod Unique
 pub mod Solve
 pub mod Grown
-pub mod Demand2
 pub mod Refusal
 pub mod RefusalLaws
-pub mod Demand1
 pub mod GrownLaws
+pub mod Demand1
+pub mod Demand2
 pub mod Demand3
 pub mod Cases

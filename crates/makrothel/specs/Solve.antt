@@ -35,9 +35,10 @@ outcomeAs (budget n) out = record { number = 9; count = n; place = 0; output = o
 -- "7 output shorter than 4v bytes, 0, 4v". "Then 6, then 7, then the walk."
 unfoldable pub tableAs : Table → ℕ → List ℕ → Answered
 tableAs t b out =
-    elim (ltb (length out) (4 * t .variables))
-    [ true ↦ refusedAs 7 (4 * t .variables) out
-    | false ↦ outcomeAs (outcome sameRole t b) out ]
+    elim (ltb (length out) (4 * t .variables)) [
+      | true ↦ refusedAs 7 (4 * t .variables) out
+      | false ↦ outcomeAs (outcome sameRole t b) out
+    ]
 
 abbrev pub readingAs : Reading → ℕ → List ℕ → Answered
 readingAs (refusal n p) b out = refusedAs n p out

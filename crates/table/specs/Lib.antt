@@ -1,3 +1,4 @@
 pub mod Code
 pub mod Reading
 pub mod Layout
+pub mod LayoutLaws

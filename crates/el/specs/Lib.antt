@@ -6,3 +6,6 @@ pub mod Assignment
 pub mod Growth
 pub mod Walk
 pub mod TestLaws
+pub mod ReachLaws
+pub mod Conjuncts
+pub mod OrderLaws

@@ -1,1 +1,1 @@
-// The test of one line at a node.
+// x

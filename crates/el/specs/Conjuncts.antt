@@ -4,6 +4,7 @@
 --   names C               == the names among C's conjuncts
 --   Restriction           == a restriction: its role and its filler
 --   restrictions C        == the restrictions among C's conjuncts
+--   Serves under s p C    == among C's conjuncts is a restriction whose role lies under s and whose filler passes p
 --   Corollary-1 under C D == what Corollary 1 asks of C and D for C to be below D
 --   depth C               == how many restrictions of C stand inside each other
 use mathlib.Core.Path.{_≡_}
@@ -35,13 +36,16 @@ restrictions (name a) = []
 restrictions (meet C D) = restrictions C ++ restrictions D
 restrictions (some r C) = record { role = r; filler = C } ∷ []
 
+-- "C has a restriction with the same role s whose filler is ..": where roles are compared by `under`
+unfoldable pub Serves : (ℕ → ℕ → Bool) → ℕ → (Description → Bool) → Description → Type 0
+Serves under s p C = (q : Restriction) × Among q (restrictions C) × T (under (q .role) s) × T (p (q .filler))
+
 -- "every constant among D's conjuncts is among C's, and for each restriction of D, role s and filler D', C has a
--- restriction with the same role s whose filler is below D' (004, Corollary 1)": where roles are compared by `under`
+-- restriction with the same role s whose filler is below D' (004, Corollary 1)"
 unfoldable pub Corollary-1 : (ℕ → ℕ → Bool) → Description → Description → Type 0
 Corollary-1 under C D =
     ((a : ℕ) → Among a (names D) → Among a (names C))
-    × ((q : Restriction) → Among q (restrictions D) →
-    (p : Restriction) × Among p (restrictions C) × T (under (p .role) (q .role)) × T (below under (p .filler) (q .filler)))
+    × ((q : Restriction) → Among q (restrictions D) → Serves under (q .role) (λ E. below under E (q .filler)) C)
 
 abbrev pub depth : Description → ℕ
 depth top = 0

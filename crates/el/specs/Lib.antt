@@ -5,7 +5,14 @@ pub mod Meaning
 pub mod Assignment
 pub mod Growth
 pub mod Walk
+pub mod ScanLaws
+pub mod StepLaws
+pub mod FirstLaws
 pub mod TestLaws
 pub mod ReachLaws
 pub mod Conjuncts
 pub mod OrderLaws
+pub mod NodeLaws
+pub mod OutcomeLaws
+pub mod Rank
+pub mod InducedLaws

@@ -1,24 +1,25 @@
 -- Laws of the order between descriptions.
 --
 --   among-left, among-right, among-cases    == what is among two lists one after the other
+--   A ↔ B                                   == A gives B, and B gives A
 --   hasName-means, hasSome-means            == the two questions of the order, by the lists of conjuncts
 --   corollary-1                             == the computed order is Corollary 1 of 004
 --   below-left, below-right                 == one conjunct below is enough
---   hasName-meet, hasSome-map               == the questions along a conjunction and along an implication
+--   hasSome-map                             == the second question along an implication
 --   below-refl, below-trans                 == the order is reflexive and transitive, where the roles' is
 --   below-depth                             == what lies below is at least as deep
 --   sameRole-refl, sameRole-trans           == equality of roles is such a relation
 --   joining-is-wrong                        == two restrictions with one role are not one restriction on the joined fillers
 use mathlib.Core.Path.{_≡_, refl, sym, ap, subst, _∙_}
 use mathlib.Core.Bool.{Bool, true, false, _&&_, _||_}
-use mathlib.Core.Logic.{_⊎_, inl, inr}
+use mathlib.Core.Logic.{_⊎_, inl, inr, _↔_}
 use mathlib.Core.List.{List, [], _∷_, _++_}
 use Prim.Native.Nat.{ℕ, zero, suc, _≤_, _<_, max}
 use native.Mathlib.Omega.{arith}
 use lib.Dec.{T, eqb, eqb→eq, eqb-refl}
 use Rattle.el.specs.TestLaws.{or-left, or-right, or-cases, and-make, and-left, and-right}
 use Rattle.el.specs.Description.{Description, top, name, meet, some, sameRole, hasName, hasSome, below}
-use Rattle.el.specs.Conjuncts.{Among, names, Restriction, restrictions, Corollary-1, depth}
+use Rattle.el.specs.Conjuncts.{Among, names, Restriction, restrictions, Serves, Corollary-1, depth}
 
 module _ {A : Type 0} (x : A) where
   pub among-left : (l m : List A) → Among x l → Among x (l ++ m)
@@ -38,10 +39,7 @@ module _ {A : Type 0} (x : A) where
 ----------------------------------------------------------------------------------------------------
 -- Corollary 1
 
-abbrev Both : Type 0 → Type 0 → Type 0
-Both A B = (A → B) × (B → A)
-
-pub hasName-means : (a : ℕ) (C : Description) → (T (hasName a C) → Among a (names C)) × (Among a (names C) → T (hasName a C))
+pub hasName-means : (a : ℕ) (C : Description) → T (hasName a C) ↔ Among a (names C)
 hasName-means a top = ((λ t. t), λ t. t)
 hasName-means a (name b) = ((λ t. inl (sym (eqb→eq b a t))), back)
   where
@@ -50,37 +48,36 @@ hasName-means a (name b) = ((λ t. inl (sym (eqb→eq b a t))), back)
     back (inr h) = absurd h
 hasName-means a (meet C D) = go (hasName-means a C) (hasName-means a D)
   where
-    go : Both (T (hasName a C)) (Among a (names C)) → Both (T (hasName a D)) (Among a (names D)) → Both (T (hasName a (meet C D))) (Among a (names (meet C D)))
-    go f g =
-        ((λ t. elim (or-cases (hasName a C) (hasName a D) t) [ inl u ↦ among-left a (names C) (names D) (f .0 u) | inr u ↦ among-right a (names C) (names D) (g .0 u) ]),
-        λ m. elim (among-cases a (names C) (names D) m) [ inl u ↦ or-left (hasName a C) (hasName a D) (f .1 u) | inr u ↦ or-right (hasName a C) (hasName a D) (g .1 u) ])
+    go : (T (hasName a C) ↔ Among a (names C)) → (T (hasName a D) ↔ Among a (names D)) → T (hasName a (meet C D)) ↔ Among a (names (meet C D))
+    go f g = (
+      (λ t. elim (or-cases (hasName a C) (hasName a D) t) [ inl u ↦ among-left a (names C) (names D) (f .0 u) | inr u ↦ among-right a (names C) (names D) (g .0 u) ]),
+      λ m. elim (among-cases a (names C) (names D) m) [ inl u ↦ or-left (hasName a C) (hasName a D) (f .1 u) | inr u ↦ or-right (hasName a C) (hasName a D) (g .1 u) ],
+    )
 hasName-means a (some r C) = ((λ t. t), λ t. t)
 
 module _ (under : ℕ → ℕ → Bool) where
-  abbrev Serves : ℕ → (Description → Bool) → Description → Type 0
-  Serves s p C = (q : Restriction) × Among q (restrictions C) × T (under (q .role) s) × T (p (q .filler))
-
-  pub hasSome-means : (s : ℕ) (p : Description → Bool) (C : Description) →
-      (T (hasSome under s p C) → (q : Restriction) × Among q (restrictions C) × T (under (q .role) s) × T (p (q .filler)))
-      × ((q : Restriction) × Among q (restrictions C) × T (under (q .role) s) × T (p (q .filler)) → T (hasSome under s p C))
+  pub hasSome-means : (s : ℕ) (p : Description → Bool) (C : Description) → T (hasSome under s p C) ↔ Serves under s p C
+  unfolding Serves
   hasSome-means s p top = ((λ t. absurd t), λ q. q .1)
   hasSome-means s p (name b) = ((λ t. absurd t), λ q. q .1)
   hasSome-means s p (meet C D) = go (hasSome-means s p C) (hasSome-means s p D)
     where
-      go : Both (T (hasSome under s p C)) (Serves s p C) → Both (T (hasSome under s p D)) (Serves s p D) → Both (T (hasSome under s p (meet C D))) (Serves s p (meet C D))
+      go : (T (hasSome under s p C) ↔ Serves under s p C) → (T (hasSome under s p D) ↔ Serves under s p D) → T (hasSome under s p (meet C D)) ↔ Serves under s p (meet C D)
       go f g = (there, back)
         where
-          there : T (hasSome under s p (meet C D)) → Serves s p (meet C D)
+          there : T (hasSome under s p (meet C D)) → Serves under s p (meet C D)
           there t =
-              elim (or-cases (hasSome under s p C) (hasSome under s p D) t)
-              [ inl u ↦ let q = f .0 u in (q .0, among-left (q .0) (restrictions C) (restrictions D) (q .1), q .2, q .3)
-              | inr u ↦ let q = g .0 u in (q .0, among-right (q .0) (restrictions C) (restrictions D) (q .1), q .2, q .3) ]
+              elim (or-cases (hasSome under s p C) (hasSome under s p D) t) [
+                | inl u ↦ let q = f .0 u in (q .0, among-left (q .0) (restrictions C) (restrictions D) (q .1), q .2, q .3)
+                | inr u ↦ let q = g .0 u in (q .0, among-right (q .0) (restrictions C) (restrictions D) (q .1), q .2, q .3)
+              ]
 
-          back : Serves s p (meet C D) → T (hasSome under s p (meet C D))
+          back : Serves under s p (meet C D) → T (hasSome under s p (meet C D))
           back q =
-              elim (among-cases (q .0) (restrictions C) (restrictions D) (q .1))
-              [ inl u ↦ or-left (hasSome under s p C) (hasSome under s p D) (f .1 (q .0, u, q .2, q .3))
-              | inr u ↦ or-right (hasSome under s p C) (hasSome under s p D) (g .1 (q .0, u, q .2, q .3)) ]
+              elim (among-cases (q .0) (restrictions C) (restrictions D) (q .1)) [
+                | inl u ↦ or-left (hasSome under s p C) (hasSome under s p D) (f .1 (q .0, u, q .2, q .3))
+                | inr u ↦ or-right (hasSome under s p C) (hasSome under s p D) (g .1 (q .0, u, q .2, q .3))
+              ]
   hasSome-means s p (some r C) =
       ((λ t. (record { role = r; filler = C }, inl refl, and-left (under r s) (p C) t, and-right (under r s) (p C) t)), λ q. back (q .0) (q .1) (q .2) (q .3))
     where
@@ -92,8 +89,8 @@ module _ (under : ℕ → ℕ → Bool) where
       back q (inr h) u w = absurd h
 
   -- "C is below D when ..": the computed order says exactly this
-  pub corollary-1 : (C D : Description) → (T (below under C D) → Corollary-1 under C D) × (Corollary-1 under C D → T (below under C D))
-  unfolding Corollary-1
+  pub corollary-1 : (C D : Description) → T (below under C D) ↔ Corollary-1 under C D
+  unfolding Corollary-1 Serves
   corollary-1 C top = ((λ t. ((λ a m. absurd m), λ q m. absurd m)), λ c. tt)
   corollary-1 C (name b) = (there, λ c. hasName-means b C .1 (c .0 b (inl refl)))
     where
@@ -105,15 +102,16 @@ module _ (under : ℕ → ℕ → Bool) where
       there t = (only t, λ q m. absurd m)
   corollary-1 C (meet D E) = go (corollary-1 C D) (corollary-1 C E)
     where
-      go : Both (T (below under C D)) (Corollary-1 under C D) → Both (T (below under C E)) (Corollary-1 under C E) → Both (T (below under C (meet D E))) (Corollary-1 under C (meet D E))
+      go : (T (below under C D) ↔ Corollary-1 under C D) → (T (below under C E) ↔ Corollary-1 under C E) → T (below under C (meet D E)) ↔ Corollary-1 under C (meet D E)
       go f g = (there, back)
         where
           there : T (below under C D && below under C E) → Corollary-1 under C (meet D E)
           there t =
               let d = f .0 (and-left (below under C D) (below under C E) t) in
-              let e = g .0 (and-right (below under C D) (below under C E) t) in
-              ((λ a m. elim (among-cases a (names D) (names E) m) [ inl u ↦ d .0 a u | inr u ↦ e .0 a u ]),
-              λ q m. elim (among-cases q (restrictions D) (restrictions E) m) [ inl u ↦ d .1 q u | inr u ↦ e .1 q u ])
+              let e = g .0 (and-right (below under C D) (below under C E) t) in (
+                (λ a m. elim (among-cases a (names D) (names E) m) [ inl u ↦ d .0 a u | inr u ↦ e .0 a u ]),
+                λ q m. elim (among-cases q (restrictions D) (restrictions E) m) [ inl u ↦ d .1 q u | inr u ↦ e .1 q u ],
+              )
 
           back : Corollary-1 under C (meet D E) → T (below under C D && below under C E)
           back c =
@@ -124,14 +122,14 @@ module _ (under : ℕ → ℕ → Bool) where
       ((λ t. ((λ a m. absurd m), only t)), λ c. hasSome-means s (λ E. below under E D) C .1 (c .1 (record { role = s; filler = D }) (inl refl)))
     where
       only : T (hasSome under s (λ E. below under E D) C) → (q : Restriction) → Among q (record { role = s; filler = D } ∷ []) →
-          (p : Restriction) × Among p (restrictions C) × T (under (p .role) (q .role)) × T (below under (p .filler) (q .filler))
+          Serves under (q .role) (λ E. below under E (q .filler)) C
       only t q (inl e) =
-          subst (λ (q : Restriction). (p : Restriction) × Among p (restrictions C) × T (under (p .role) (q .role)) × T (below under (p .filler) (q .filler))) (sym e)
+          subst (λ (q : Restriction). Serves under (q .role) (λ E. below under E (q .filler)) C) (sym e)
           (hasSome-means s (λ E. below under E D) C .0 t)
       only t q (inr h) = absurd h
 
-----------------------------------------------------------------------------------------------------
--- Conjunctions
+  ----------------------------------------------------------------------------------------------------
+  -- Conjunctions
 
   pub below-left : (C D E : Description) → T (below under C E) → T (below under (meet C D) E)
   below-left C D top t = tt
@@ -151,8 +149,8 @@ module _ (under : ℕ → ℕ → Bool) where
       (below-right C D F (and-right (below under D E) (below under D F) t))
   below-right C D (some s E) t = or-right (hasSome under s (λ F. below under F E) C) (hasSome under s (λ F. below under F E) D) t
 
-----------------------------------------------------------------------------------------------------
--- Reflexive
+  ----------------------------------------------------------------------------------------------------
+  -- Reflexive
 
   module _ (under-refl : (r : ℕ) → T (under r r)) where
     pub below-refl : (C : Description) → T (below under C C)
@@ -161,8 +159,8 @@ module _ (under : ℕ → ℕ → Bool) where
     below-refl (meet C D) = and-make (below under (meet C D) C) (below under (meet C D) D) (below-left C D C (below-refl C)) (below-right C D D (below-refl D))
     below-refl (some r C) = and-make (under r r) (below under C C) (under-refl r) (below-refl C)
 
-----------------------------------------------------------------------------------------------------
--- Transitive
+  ----------------------------------------------------------------------------------------------------
+  -- Transitive
 
   -- a restriction that serves s and p serves u and q, where each filler that passes p passes q and s lies under u
   pub hasSome-map : (s u : ℕ) (p q : Description → Bool) → ((r : ℕ) → T (under r s) → T (under r u)) → ((E : Description) → T (p E) → T (q E)) →
@@ -170,18 +168,20 @@ module _ (under : ℕ → ℕ → Bool) where
   hasSome-map s u p q f g top t = t
   hasSome-map s u p q f g (name b) t = t
   hasSome-map s u p q f g (meet C D) t =
-      elim (or-cases (hasSome under s p C) (hasSome under s p D) t)
-      [ inl w ↦ or-left (hasSome under u q C) (hasSome under u q D) (hasSome-map s u p q f g C w)
-      | inr w ↦ or-right (hasSome under u q C) (hasSome under u q D) (hasSome-map s u p q f g D w) ]
+      elim (or-cases (hasSome under s p C) (hasSome under s p D) t) [
+        | inl w ↦ or-left (hasSome under u q C) (hasSome under u q D) (hasSome-map s u p q f g C w)
+        | inr w ↦ or-right (hasSome under u q C) (hasSome under u q D) (hasSome-map s u p q f g D w)
+      ]
   hasSome-map s u p q f g (some r C) t = and-make (under r u) (q C) (f r (and-left (under r s) (p C) t)) (g C (and-right (under r s) (p C) t))
 
   name-trans : (a : ℕ) (C D : Description) → T (below under C D) → T (hasName a D) → T (hasName a C)
   name-trans a C top t n = absurd n
   name-trans a C (name b) t n = subst (λ (k : ℕ). T (hasName k C)) (eqb→eq b a n) t
   name-trans a C (meet D E) t n =
-      elim (or-cases (hasName a D) (hasName a E) n)
-      [ inl w ↦ name-trans a C D (and-left (below under C D) (below under C E) t) w
-      | inr w ↦ name-trans a C E (and-right (below under C D) (below under C E) t) w ]
+      elim (or-cases (hasName a D) (hasName a E) n) [
+        | inl w ↦ name-trans a C D (and-left (below under C D) (below under C E) t) w
+        | inr w ↦ name-trans a C E (and-right (below under C D) (below under C E) t) w
+      ]
   name-trans a C (some s D) t n = absurd n
 
   module _ (under-trans : (r s u : ℕ) → T (under r s) → T (under s u) → T (under r u)) where
@@ -190,9 +190,10 @@ module _ (under : ℕ → ℕ → Bool) where
     some-trans u q f C top t n = absurd n
     some-trans u q f C (name b) t n = absurd n
     some-trans u q f C (meet D E) t n =
-        elim (or-cases (hasSome under u q D) (hasSome under u q E) n)
-        [ inl w ↦ some-trans u q f C D (and-left (below under C D) (below under C E) t) w
-        | inr w ↦ some-trans u q f C E (and-right (below under C D) (below under C E) t) w ]
+        elim (or-cases (hasSome under u q D) (hasSome under u q E) n) [
+          | inl w ↦ some-trans u q f C D (and-left (below under C D) (below under C E) t) w
+          | inr w ↦ some-trans u q f C E (and-right (below under C D) (below under C E) t) w
+        ]
     some-trans u q f C (some s D) t n =
         hasSome-map s u (λ E. below under E D) q
         (λ r k. under-trans r s u k (and-left (under s u) (q D) n))
@@ -207,16 +208,17 @@ module _ (under : ℕ → ℕ → Bool) where
         (below-trans C D F t (and-right (below under D E) (below under D F) n))
     below-trans C D (some s E) t n = some-trans s (λ X. below under X E) (λ X Y e k. below-trans X Y E e k) C D t n
 
-----------------------------------------------------------------------------------------------------
--- Depth
+  ----------------------------------------------------------------------------------------------------
+  -- Depth
 
   some-depth : (s n : ℕ) (p : Description → Bool) → ((E : Description) → T (p E) → n ≤ depth E) → (C : Description) → T (hasSome under s p C) → n < depth C
   some-depth s n p f top t = absurd t
   some-depth s n p f (name a) t = absurd t
   some-depth s n p f (meet C D) t =
-      elim (or-cases (hasSome under s p C) (hasSome under s p D) t)
-      [ inl w ↦ let k : n < depth C = some-depth s n p f C w in omega arith
-      | inr w ↦ let k : n < depth D = some-depth s n p f D w in omega arith ]
+      elim (or-cases (hasSome under s p C) (hasSome under s p D) t) [
+        | inl w ↦ let k : n < depth C = some-depth s n p f C w in omega arith
+        | inr w ↦ let k : n < depth D = some-depth s n p f D w in omega arith
+      ]
   some-depth s n p f (some r C) t = let k : n ≤ depth C = f C (and-right (under r s) (p C) t) in omega arith
 
   pub below-depth : (C D : Description) → T (below under C D) → depth D ≤ depth C

@@ -24,6 +24,7 @@ use Rattle.el.specs.Description.{Description, top, name, meet, some, below}
 use Rattle.el.specs.Table.{Filler, topF, constantF, variableF, Entry, constant, restriction, variable, Row, Line, Table, rowAt, atoms, fillerDeclared, rowDeclared, entryDeclared, lineDeclared, declared}
 use Rattle.el.specs.Meaning.{Substitution, fillerUnder, rowUnder, entryUnder, leftUnder, holds}
 use Rattle.el.specs.Assignment.{Assignment, setOf, acyclic, atomUnder, conjoin, setUnder, inducedTo, induced}
+use Rattle.el.specs.InducedLaws.{conjoin-below, conjoin-name, conjoin-some, induced-at}
 use Rattle.order.specs.Rule.{fillerSet, entrySet, atomRow, isConstant, flatTest, atomTest, setTest, fillerTest, entryTest, leftTest, lineTest}
 
 ----------------------------------------------------------------------------------------------------
@@ -92,23 +93,9 @@ module _ (p q : ℕ → Bool) where
         back u = allBelow-all n (λ i. not (p i) || q i) (λ i l. each u i (p i) refl)
 
 ----------------------------------------------------------------------------------------------------
--- A conjunction on the left and on the right
+-- A conjunction on the left
 
 module _ (under : ℕ → ℕ → Bool) where
-  -- below each of its conjuncts
-  pub below-conjoin : (C : Description) (n : ℕ) (p : ℕ → Bool) (d : ℕ → Description) → below under C (conjoin n p d) ≡ allBelow n (λ j. not (p j) || below under C (d j))
-  unfolding conjoin allBelow
-  below-conjoin C zero p d = refl
-  below-conjoin C (suc n) p d = go (p n) ∙ ap (λ b. b && (not (p n) || below under C (d n))) (below-conjoin C n p d)
-    where
-      and-yes : (b : Bool) → b ≡ b && true
-      and-yes true = refl
-      and-yes false = refl
-
-      go : (b : Bool) → below under C (elim b [ true ↦ meet (conjoin n p d) (d n) | false ↦ conjoin n p d ]) ≡ below under C (conjoin n p d) && (not b || below under C (d n))
-      go true = refl
-      go false = and-yes (below under C (conjoin n p d))
-
   -- E is an atom: a conjunction lies below it where one of its conjuncts does
   pub record Single (E : Description) : Type 0 where
     pub top-not : below under top E ≡ false
@@ -128,18 +115,15 @@ module _ (under : ℕ → ℕ → Bool) where
       go true = single-name j
       go false = single-some (rowAt (t .rows) (j - t .constants) .role) (fillerUnder σ (rowAt (t .rows) (j - t .constants) .filler))
 
-  pub conjoin-below : (E : Description) → Single E → (n : ℕ) (p : ℕ → Bool) (d : ℕ → Description) → below under (conjoin n p d) E ≡ anyBelow n (λ i. p i && below under (d i) E)
-  unfolding conjoin anyBelow
-  conjoin-below E s zero p d = s .top-not
-  conjoin-below E s (suc n) p d = go (p n) ∙ ap (λ b. b || (p n && below under (d n) E)) (conjoin-below E s n p d)
+  conjoin-atom : (t : Table) (σ : Substitution) (j n : ℕ) (p : ℕ → Bool) (d : ℕ → Description) → below under (conjoin n p d) (atomUnder t σ j) ≡ anyBelow n (λ i. p i && below under (d i) (atomUnder t σ j))
+  unfolding atomUnder
+  conjoin-atom t σ j n p d = go (ltb j (t .constants))
     where
-      or-no : (b : Bool) → b ≡ b || false
-      or-no true = refl
-      or-no false = refl
-
-      go : (b : Bool) → below under (elim b [ true ↦ meet (conjoin n p d) (d n) | false ↦ conjoin n p d ]) E ≡ below under (conjoin n p d) E || (b && below under (d n) E)
-      go true = s .one-does (conjoin n p d) (d n)
-      go false = or-no (below under (conjoin n p d) E)
+      row : Row
+      row = rowAt (t .rows) (j - t .constants)
+      go : (b : Bool) → below under (conjoin n p d) (elim b [ true ↦ name j | false ↦ rowUnder σ row ]) ≡ anyBelow n (λ i. p i && below under (d i) (elim b [ true ↦ name j | false ↦ rowUnder σ row ]))
+      go true = conjoin-name under j n p d
+      go false = conjoin-some under (row .role) (λ E. below under E (fillerUnder σ (row .filler))) n p d
 
   pub left-below : (E : Description) → Single E → (rows : List Row) (σ : Substitution) (l : List Entry) → below under (leftUnder rows σ l) E ≡ anyOf (λ x. below under (entryUnder rows σ x) E) l
   unfolding anyOf
@@ -205,8 +189,8 @@ module _ (under : ℕ → ℕ → Bool) (t : Table) where
     unfolding setTest setUnder
     says-set S =
         record {
-          as-left = λ j. anyBelow-same (atoms t) (λ i. bit i S && atomTest under t fb i j) (λ i. bit i S && below under (atomUnder t σ i) (atomUnder t σ j)) (λ i h. ap (λ b. bit i S && b) (atom-agrees i j)) ∙ sym (conjoin-below under (atomUnder t σ j) (single-atom under t σ j) (atoms t) (λ i. bit i S) (atomUnder t σ));
-          as-right = λ C. below-conjoin under C (atoms t) (λ i. bit i S) (atomUnder t σ);
+          as-left = λ j. anyBelow-same (atoms t) (λ i. bit i S && atomTest under t fb i j) (λ i. bit i S && below under (atomUnder t σ i) (atomUnder t σ j)) (λ i h. ap (λ b. bit i S && b) (atom-agrees i j)) ∙ sym (conjoin-atom under t σ j (atoms t) (λ i. bit i S) (atomUnder t σ));
+          as-right = λ C. conjoin-below under C (atoms t) (λ i. bit i S) (atomUnder t σ);
         }
 
     pub sets-agree : (S R : ℕ) (D E : Description) → Says S D → Says R E → allBelow (atoms t) (λ j. not (bit j R) || setTest under t fb S j) ≡ below under D E
@@ -239,22 +223,22 @@ module _ (under : ℕ → ℕ → Bool) (t : Table) (fb : Filler → Filler → 
   says-constant k u = subst (Says under t fb σ agree (2 ^ k)) (atom-constant t σ k u) (says-atom under t fb σ agree k (constant-in t k u))
 
   -- τ is σ carried out once more
-  module _ (a : Assignment) (τ : Substitution) (once : (x : ℕ) → τ x ≡ setUnder t σ (setOf a x)) where
-    says-variable : (x : ℕ) → Says under t fb σ agree (setOf a x) (τ x)
-    says-variable x = subst (Says under t fb σ agree (setOf a x)) (sym (once x)) (says-set under t fb σ agree (setOf a x))
+  module _ (a : Assignment) (τ : Substitution) (once : (x : ℕ) → x < t .variables → τ x ≡ setUnder t σ (setOf a x)) where
+    says-variable : (x : ℕ) → T (ltb x (t .variables)) → Says under t fb σ agree (setOf a x) (τ x)
+    says-variable x u = subst (Says under t fb σ agree (setOf a x)) (sym (once x (ltb→lt x (t .variables) u))) (says-set under t fb σ agree (setOf a x))
 
     pub says-filler : (f : Filler) → T (fillerDeclared t f) → Says under t fb σ agree (fillerSet a f) (fillerUnder τ f)
     unfolding fillerSet
     says-filler topF u = says-top under t fb σ agree
     says-filler (constantF k) u = says-constant k u
-    says-filler (variableF x) u = says-variable x
+    says-filler (variableF x) u = says-variable x u
 
-  module _ (a : Assignment) (once : (x : ℕ) → σ x ≡ setUnder t σ (setOf a x)) where
+  module _ (a : Assignment) (once : (x : ℕ) → x < t .variables → σ x ≡ setUnder t σ (setOf a x)) where
     pub says-entry : (x : Entry) → T (entryDeclared t x) → Says under t fb σ agree (entrySet t a x) (entryUnder (t .rows) σ x)
     unfolding entrySet
     says-entry (constant k) u = says-constant k u
     says-entry (restriction k) u = subst (Says under t fb σ agree (2 ^ (t .constants + k))) (atom-restriction t σ k) (says-atom under t fb σ agree (t .constants + k) (restriction-in t k u))
-    says-entry (variable x) u = says-variable a σ once x
+    says-entry (variable x) u = says-variable a σ once x u
 
 module _ (under : ℕ → ℕ → Bool) (t : Table) (fine : T (declared t)) (a : Assignment) where
   -- THE RULE
@@ -273,28 +257,34 @@ module _ (under : ℕ → ℕ → Bool) (t : Table) (fine : T (declared t)) (a :
       go : Answers under t (fillerTest under t a k) (inducedTo t a k) → allBelow (atoms t) (λ j. not (bit j (fillerSet a g)) || setTest under t (fillerTest under t a k) (fillerSet a f) j) ≡ below under (fillerUnder (inducedTo t a (suc k)) f) (fillerUnder (inducedTo t a (suc k)) g)
       go agree =
           sets-agree under t (fillerTest under t a k) (inducedTo t a k) agree (fillerSet a f) (fillerSet a g) (fillerUnder (inducedTo t a (suc k)) f) (fillerUnder (inducedTo t a (suc k)) g)
-          (says-filler under t (fillerTest under t a k) (inducedTo t a k) agree a (inducedTo t a (suc k)) (λ x. refl) f u)
-          (says-filler under t (fillerTest under t a k) (inducedTo t a k) agree a (inducedTo t a (suc k)) (λ x. refl) g v)
+          (says-filler under t (fillerTest under t a k) (inducedTo t a k) agree a (inducedTo t a (suc k)) (λ x h. refl) f u)
+          (says-filler under t (fillerTest under t a k) (inducedTo t a k) agree a (inducedTo t a (suc k)) (λ x h. refl) g v)
 
   rows-answer : Answers under t (fillerTest under t a (t .variables)) (induced t a)
   unfolding Answers induced
   rows-answer i j = rule (t .variables) (atomRow t i .filler) (atomRow t j .filler) (atom-declared t fine i) (atom-declared t fine j)
 
-  module _ (once : (x : ℕ) → induced t a x ≡ setUnder t (induced t a) (setOf a x)) where
+  module _ (calm : T (acyclic t a)) where
+    entry-says : (x : Entry) → T (entryDeclared t x) → Says under t (fillerTest under t a (t .variables)) (induced t a) rows-answer (entrySet t a x) (entryUnder (t .rows) (induced t a) x)
+    entry-says = says-entry under t (fillerTest under t a (t .variables)) (induced t a) rows-answer a (induced-at t fine a calm)
+
     left-agrees : (l : List Entry) → T (everyOf (entryDeclared t) l) → (j : ℕ) → leftTest under t a l j ≡ anyOf (λ x. below under (entryUnder (t .rows) (induced t a) x) (atomUnder t (induced t a) j)) l
     unfolding leftTest entryTest anyOf everyOf
     left-agrees [] u j = refl
     left-agrees (x ∷ l) u j =
-        ap₂ _||_ (says-entry under t (fillerTest under t a (t .variables)) (induced t a) rows-answer a once x (and-left (entryDeclared t x) (everyOf (entryDeclared t) l) u) .as-left j)
+        ap₂ _||_ (entry-says x (and-left (entryDeclared t x) (everyOf (entryDeclared t) l) u) .as-left j)
         (left-agrees l (and-right (entryDeclared t x) (everyOf (entryDeclared t) l) u) j)
 
-    pub line-answers : (l : Line) → T (lineDeclared t l) → lineTest under t a l ≡ holds under (t .rows) (induced t a) l
+    -- the left conjunction lies below each atom of the right entry
+    pub line-rule : (l : Line) → T (lineDeclared t l) → lineTest under t a l ≡ holds under (t .rows) (induced t a) l
     unfolding lineTest holds
-    line-answers l u =
-        allBelow-same (atoms t) (λ j. not (bit j (entrySet t a (l .right))) || leftTest under t a (l .left) j) (λ j. not (bit j (entrySet t a (l .right))) || below under (leftUnder (t .rows) (induced t a) (l .left)) (atomUnder t (induced t a) j)) (λ j h. ap (λ b. not (bit j (entrySet t a (l .right))) || b) (each j))
-        ∙ sym (says-entry under t (fillerTest under t a (t .variables)) (induced t a) rows-answer a once (l .right) (and-right (everyOf (entryDeclared t) (l .left)) (entryDeclared t (l .right)) u) .as-right (leftUnder (t .rows) (induced t a) (l .left)))
+    line-rule l u =
+        allBelow-same (atoms t) (λ j. not (bit j (entrySet t a (l .right))) || leftTest under t a (l .left) j) (λ j. not (bit j (entrySet t a (l .right))) || below under left (atomUnder t (induced t a) j)) (λ j h. ap (λ b. not (bit j (entrySet t a (l .right))) || b) (each j))
+        ∙ sym (entry-says (l .right) (and-right (everyOf (entryDeclared t) (l .left)) (entryDeclared t (l .right)) u) .as-right left)
       where
-        each : (j : ℕ) → leftTest under t a (l .left) j ≡ below under (leftUnder (t .rows) (induced t a) (l .left)) (atomUnder t (induced t a) j)
+        left : Description
+        left = leftUnder (t .rows) (induced t a) (l .left)
+        each : (j : ℕ) → leftTest under t a (l .left) j ≡ below under left (atomUnder t (induced t a) j)
         each j =
             left-agrees (l .left) (and-left (everyOf (entryDeclared t) (l .left)) (entryDeclared t (l .right)) u) j
             ∙ sym (left-below under (atomUnder t (induced t a) j) (single-atom under t (induced t a) j) (t .rows) (induced t a) (l .left))

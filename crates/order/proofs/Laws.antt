@@ -2,8 +2,9 @@
 --
 --   power-fits                          == 1 << i is 2 ^ i
 --   filler-read, entry-read             == what a declared code says
+--   filler-..-fits, entry-..-fits       == the number that a declared code holds is in range
 --   set-.., entry-..                    == the set of a filler's, an entry's code, by its kind
---   flat-..                             == the flat test by the kinds of two codes
+--   constant-kind, flat-kind            == the flat test, by the kinds of the codes
 --   row-.., atom-count                  == what the bytes of a row say
 --   RowAsk, AtomAsk                     == what is asked of each row, of each atom of the right set
 --   set-constant, set-rows              == a conjunction below a constant, and below a restriction
@@ -90,14 +91,63 @@ module _ (s : List ℕ) (b : ℕ) (k : ℕ) where
   unfolding IsEntry entryOf entryOfKind entryFrom
   entry-variable q e = within-some k (byteAt s 7) (variable k) (entryFromKind (kindOf b)) (ap (entryOfKind (byteAt s 5) (byteAt s 8) (byteAt s 7)) (sym e) ∙ q) .0
 
--- the set of a filler's code, of an entry's code, from its kind
-pub filler-set-kind : (a : Assignment) (b : ℕ) (k : Kind) → kindOf b ≡ k → fillerSet a (fillerFromKind k) ≡ fillerSet a (fillerFrom b)
-unfolding fillerFrom
-filler-set-kind a b k e = ap (λ x. fillerSet a (fillerFromKind x)) (sym e)
+-- the number w that a code's kind holds fits a shift, or is a place among the sets
+module _ (s : List ℕ) (a : Assignment) (c e : ℕ) (g : Given s a c e) (b k w : ℕ) (same : w ≡ k) where
+  pub filler-constant-fits : IsFiller s b → kindOf b ≡ Constant k → w < 32
+  filler-constant-fits q p = let h : k < byteAt s 5 = filler-constant s b k q p in let m : c ≡ byteAt s 5 = g .constants in let l : c + e ≤ 24 = g .few-atoms in omega arith
 
-pub entry-set-kind : (t : Table) (a : Assignment) (b : ℕ) (k : Kind) → kindOf b ≡ k → entrySet t a (entryFromKind k) ≡ entrySet t a (entryFrom b)
-unfolding entryFrom
-entry-set-kind t a b k e = ap (λ x. entrySet t a (entryFromKind x)) (sym e)
+  pub filler-variable-fits : IsFiller s b → kindOf b ≡ Variable k → w < length a
+  filler-variable-fits q p = let h : k < byteAt s 7 = filler-variable s b k q p in let m : byteAt s 7 ≤ 12 = layout s (g .readable) .few-variables in let l : length a ≡ 12 = g .sets in omega arith
+
+  pub entry-constant-fits : IsEntry s b → kindOf b ≡ Constant k → w < 32
+  entry-constant-fits q p = let h : k < byteAt s 5 = entry-constant s b k q p in let m : c ≡ byteAt s 5 = g .constants in let l : c + e ≤ 24 = g .few-atoms in omega arith
+
+  pub entry-restriction-fits : IsEntry s b → kindOf b ≡ Restriction k → c + w < 32
+  entry-restriction-fits q p = let h : k < byteAt s 8 = entry-restriction s b k q p in let m : e ≡ byteAt s 8 = g .restrictions in let l : c + e ≤ 24 = g .few-atoms in omega arith
+
+  pub entry-variable-fits : IsEntry s b → kindOf b ≡ Variable k → w < length a
+  entry-variable-fits q p = let h : k < byteAt s 7 = entry-variable s b k q p in let m : byteAt s 7 ≤ 12 = layout s (g .readable) .few-variables in let l : length a ≡ 12 = g .sets in omega arith
+
+-- the set of a filler's code, by its kind
+module _ (a : Assignment) (b : ℕ) where
+  pub set-none : (k : Kind) → kindOf b ≡ k → fillerFromKind k ≡ topF → 0 ≡ fillerSet a (fillerFrom b)
+  unfolding fillerFrom fillerSet
+  set-none k e q = ap (fillerSet a) (sym q ∙ ap fillerFromKind (sym e))
+
+  pub set-one : (k w : ℕ) → w ≡ k → w < 32 → kindOf b ≡ Constant k → 1 * 2 ^ w % 4294967296 ≡ fillerSet a (fillerFrom b)
+  unfolding fillerFrom fillerSet
+  set-one k w q h e = power-fits w h ∙ ap (λ (n : ℕ). 2 ^ n) q ∙ ap (λ x. fillerSet a (fillerFromKind x)) (sym e)
+
+  pub set-given : (k w : ℕ) → w ≡ k → kindOf b ≡ Variable k → getD a w 0 ≡ fillerSet a (fillerFrom b)
+  unfolding fillerFrom fillerSet setOf
+  set-given k w q e = ap (λ (n : ℕ). getD a n 0) q ∙ ap (λ x. fillerSet a (fillerFromKind x)) (sym e)
+
+-- the set of an entry's code, by its kind
+module _ (t : Table) (a : Assignment) (b : ℕ) where
+  pub entry-none : (k : Kind) → kindOf b ≡ k → entryFromKind k ≡ constant 0 → 1 ≡ entrySet t a (entryFrom b)
+  unfolding entryFrom entrySet
+  entry-none k e q = ap (entrySet t a) (sym q ∙ ap entryFromKind (sym e))
+
+  pub entry-one : (k w : ℕ) → w ≡ k → w < 32 → kindOf b ≡ Constant k → 1 * 2 ^ w % 4294967296 ≡ entrySet t a (entryFrom b)
+  unfolding entryFrom entrySet
+  entry-one k w q h e = power-fits w h ∙ ap (λ (n : ℕ). 2 ^ n) q ∙ ap (λ x. entrySet t a (entryFromKind x)) (sym e)
+
+  pub entry-row : (c k w : ℕ) → c ≡ t .constants → w ≡ k → c + w < 32 → kindOf b ≡ Restriction k → 1 * 2 ^ (c + w) % 4294967296 ≡ entrySet t a (entryFrom b)
+  unfolding entryFrom entrySet
+  entry-row c k w r q h e = power-fits (c + w) h ∙ ap₂ (λ (m n : ℕ). 2 ^ (m + n)) r q ∙ ap (λ x. entrySet t a (entryFromKind x)) (sym e)
+
+  pub entry-given : (k w : ℕ) → w ≡ k → kindOf b ≡ Variable k → getD a w 0 ≡ entrySet t a (entryFrom b)
+  unfolding entryFrom entrySet setOf
+  entry-given k w q e = ap (λ (n : ℕ). getD a n 0) q ∙ ap (λ x. entrySet t a (entryFromKind x)) (sym e)
+
+-- the flat test by the kinds of the codes
+pub constant-kind : (b k : ℕ) (x : Kind) → kindOf b ≡ x → isConstant k (fillerFromKind x) ≡ isConstant k (fillerFrom b)
+unfolding fillerFrom
+constant-kind b k x e = ap (λ y. isConstant k (fillerFromKind y)) (sym e)
+
+pub flat-kind : (f g : ℕ) (x : Kind) → kindOf g ≡ x → flatTest (fillerFrom f) (fillerFromKind x) ≡ flatTest (fillerFrom f) (fillerFrom g)
+unfolding fillerFrom
+flat-kind f g x e = ap (λ y. flatTest (fillerFromKind (kindOf f)) (fillerFromKind y)) (sym e)
 
 ----------------------------------------------------------------------------------------------------
 -- Rests of a set number
@@ -125,7 +175,7 @@ module _ (s : List ℕ) (a : Assignment) (c e : ℕ) (g : Given s a c e) where
   unfolding atoms
   atom-count = let l = layout s (g .readable) in ap₂ _+_ (l .constants ∙ sym (g .constants)) (l .rows ∙ sym (g .restrictions))
 
-  constant-count : tableOf s .constants ≡ c
+  pub constant-count : tableOf s .constants ≡ c
   constant-count = layout s (g .readable) .constants ∙ sym (g .constants)
 
   row-in : (k : ℕ) → k < e → k < byteAt s 8

@@ -1,0 +1,514 @@
+use Prim.Native.Nat.{ℕ, _<_}
+use borrow.Fn.Kinds.{In}
+use borrow.Fn.PlainCycle.{Measures, is, falls, and}
+use Rattle.order.proofs.filler_below.Reads as filler-below
+use Rattle.order.proofs.filler_below.Kinds as filler-below-kinds
+use Rattle.order.proofs.+filler_below+set_below.Lts-filler_below as filler-below-lts
+use Rattle.order.proofs.set_below.Reads as set-below
+use Rattle.order.proofs.set_below.Kinds as set-below-kinds
+use Rattle.order.proofs.+filler_below+set_below.Lts-set_below as set-below-lts
+use Rattle.order.proofs.bit_of.Reads as bit-of-reads
+use Rattle.order.proofs.filler_set.Reads as filler-set-reads
+use Rattle.order.proofs.flat_below.Reads as flat-below-reads
+use Rattle.order.proofs.+filler_below+set_below.{statement}
+use Rattle.order.proofs.+filler_below+set_below.Tie.{close}
+
+abbrev μ-filler-below : Measures 2 filler-below-kinds.ps ℕ
+μ-filler-below κs a = ?
+
+abbrev μ-set-below : Measures 2 set-below-kinds.ps ℕ
+μ-set-below κs a = ?
+
+abbrev filler-below-at : ℕ → In 2 filler-below-kinds.ps
+filler-below-at t =
+    and 2 filler-below-kinds.ps (is 2 filler-below-kinds.ps μ-filler-below t) filler-below.Pre
+
+abbrev filler-below-below : ℕ → In 2 filler-below-kinds.ps
+filler-below-below t =
+    and
+    2
+    filler-below-kinds.ps
+    (falls 2 filler-below-kinds.ps _<_ μ-filler-below t)
+    filler-below.Pre
+
+abbrev set-below-at : ℕ → In 2 set-below-kinds.ps
+set-below-at t = and 2 set-below-kinds.ps (is 2 set-below-kinds.ps μ-set-below t) set-below.Pre
+
+abbrev set-below-below : ℕ → In 2 set-below-kinds.ps
+set-below-below t =
+    and 2 set-below-kinds.ps (falls 2 set-below-kinds.ps _<_ μ-set-below t) set-below.Pre
+
+abbrev filler-below-Inv-loop : filler-below-lts.InvT-loop
+filler-below-Inv-loop table set c e f g depth left right j₀ j = ?
+
+abbrev filler-below-μ-loop : filler-below-lts.MeasureT-loop
+filler-below-μ-loop table set c e f g depth left right j₀ j = ?
+
+-- src/lib.rt:113:9
+filler-below-flat-below-requires : (t : ℕ) → filler-below-lts.Need-flat-below-requires (
+  flat-below-reads.Asked,
+  flat-below-reads.Learnt,
+  filler-set-reads.Asked,
+  filler-set-reads.Learnt,
+  set-below-below t,
+  set-below.Post,
+) (filler-below-at t) filler-below.Post filler-below-Inv-loop filler-below-μ-loop
+filler-below-flat-below-requires t c κs = ?
+
+-- src/lib.rt:113:9
+filler-below-returns : (t : ℕ) → filler-below-lts.Need-returns (
+  flat-below-reads.Asked,
+  flat-below-reads.Learnt,
+  filler-set-reads.Asked,
+  filler-set-reads.Learnt,
+  set-below-below t,
+  set-below.Post,
+) (filler-below-at t) filler-below.Post filler-below-Inv-loop filler-below-μ-loop
+filler-below-returns t c = ?
+
+-- src/lib.rt:115:9
+filler-below-filler-set-requires : (t : ℕ) → filler-below-lts.Need-filler-set-requires (
+  flat-below-reads.Asked,
+  flat-below-reads.Learnt,
+  filler-set-reads.Asked,
+  filler-set-reads.Learnt,
+  set-below-below t,
+  set-below.Post,
+) (filler-below-at t) filler-below.Post filler-below-Inv-loop filler-below-μ-loop
+filler-below-filler-set-requires t c κs = ?
+
+-- src/lib.rt:116:9
+filler-below-filler-set-requires-2 : (t : ℕ) → filler-below-lts.Need-filler-set-requires-2 (
+  flat-below-reads.Asked,
+  flat-below-reads.Learnt,
+  filler-set-reads.Asked,
+  filler-set-reads.Learnt,
+  set-below-below t,
+  set-below.Post,
+) (filler-below-at t) filler-below.Post filler-below-Inv-loop filler-below-μ-loop
+filler-below-filler-set-requires-2 t c κs = ?
+
+-- src/lib.rt:118:5
+filler-below-loop-holds : (t : ℕ) → filler-below-lts.Need-loop-holds (
+  flat-below-reads.Asked,
+  flat-below-reads.Learnt,
+  filler-set-reads.Asked,
+  filler-set-reads.Learnt,
+  set-below-below t,
+  set-below.Post,
+) (filler-below-at t) filler-below.Post filler-below-Inv-loop filler-below-μ-loop
+filler-below-loop-holds t c = ?
+
+-- src/lib.rt:118:15
+filler-below-add-loop : (t : ℕ) → filler-below-lts.Need-add-loop (
+  flat-below-reads.Asked,
+  flat-below-reads.Learnt,
+  filler-set-reads.Asked,
+  filler-set-reads.Learnt,
+  set-below-below t,
+  set-below.Post,
+) (filler-below-at t) filler-below.Post filler-below-Inv-loop filler-below-μ-loop
+filler-below-add-loop t c = ?
+
+-- src/lib.rt:119:29
+filler-below-cast-rest : (t : ℕ) → filler-below-lts.Need-cast-rest (
+  flat-below-reads.Asked,
+  flat-below-reads.Learnt,
+  filler-set-reads.Asked,
+  filler-set-reads.Learnt,
+  set-below-below t,
+  set-below.Post,
+) (filler-below-at t) filler-below.Post filler-below-Inv-loop filler-below-μ-loop
+filler-below-cast-rest t c = ?
+
+-- src/lib.rt:119:20
+filler-below-shr-rest : (t : ℕ) → filler-below-lts.Need-shr-rest (
+  flat-below-reads.Asked,
+  flat-below-reads.Learnt,
+  filler-set-reads.Asked,
+  filler-set-reads.Learnt,
+  set-below-below t,
+  set-below.Post,
+) (filler-below-at t) filler-below.Post filler-below-Inv-loop filler-below-μ-loop
+filler-below-shr-rest t c = ?
+
+-- src/lib.rt:121:13
+filler-below-returns-2 : (t : ℕ) → filler-below-lts.Need-returns-2 (
+  flat-below-reads.Asked,
+  flat-below-reads.Learnt,
+  filler-set-reads.Asked,
+  filler-set-reads.Learnt,
+  set-below-below t,
+  set-below.Post,
+) (filler-below-at t) filler-below.Post filler-below-Inv-loop filler-below-μ-loop
+filler-below-returns-2 t c = ?
+
+-- src/lib.rt:124:54
+filler-below-sub-set-below : (t : ℕ) → filler-below-lts.Need-sub-set-below (
+  flat-below-reads.Asked,
+  flat-below-reads.Learnt,
+  filler-set-reads.Asked,
+  filler-set-reads.Learnt,
+  set-below-below t,
+  set-below.Post,
+) (filler-below-at t) filler-below.Post filler-below-Inv-loop filler-below-μ-loop
+filler-below-sub-set-below t c = ?
+
+-- src/lib.rt:124:17
+filler-below-set-below-requires : (t : ℕ) → filler-below-lts.Need-set-below-requires (
+  flat-below-reads.Asked,
+  flat-below-reads.Learnt,
+  filler-set-reads.Asked,
+  filler-set-reads.Learnt,
+  set-below-below t,
+  set-below.Post,
+) (filler-below-at t) filler-below.Post filler-below-Inv-loop filler-below-μ-loop
+filler-below-set-below-requires t c κs = ?
+
+-- src/lib.rt:125:17
+filler-below-returns-3 : (t : ℕ) → filler-below-lts.Need-returns-3 (
+  flat-below-reads.Asked,
+  flat-below-reads.Learnt,
+  filler-set-reads.Asked,
+  filler-set-reads.Learnt,
+  set-below-below t,
+  set-below.Post,
+) (filler-below-at t) filler-below.Post filler-below-Inv-loop filler-below-μ-loop
+filler-below-returns-3 t c = ?
+
+-- src/lib.rt:128:9
+filler-below-add-j : (t : ℕ) → filler-below-lts.Need-add-j (
+  flat-below-reads.Asked,
+  flat-below-reads.Learnt,
+  filler-set-reads.Asked,
+  filler-set-reads.Learnt,
+  set-below-below t,
+  set-below.Post,
+) (filler-below-at t) filler-below.Post filler-below-Inv-loop filler-below-μ-loop
+filler-below-add-j t c = ?
+
+-- src/lib.rt:118:5
+filler-below-loop-less : (t : ℕ) → filler-below-lts.Need-loop-less (
+  flat-below-reads.Asked,
+  flat-below-reads.Learnt,
+  filler-set-reads.Asked,
+  filler-set-reads.Learnt,
+  set-below-below t,
+  set-below.Post,
+) (filler-below-at t) filler-below.Post filler-below-Inv-loop filler-below-μ-loop
+filler-below-loop-less t c = ?
+
+-- src/lib.rt:118:5
+filler-below-loop-again : (t : ℕ) → filler-below-lts.Need-loop-again (
+  flat-below-reads.Asked,
+  flat-below-reads.Learnt,
+  filler-set-reads.Asked,
+  filler-set-reads.Learnt,
+  set-below-below t,
+  set-below.Post,
+) (filler-below-at t) filler-below.Post filler-below-Inv-loop filler-below-μ-loop
+filler-below-loop-again t c = ?
+
+-- src/lib.rt:108:1
+filler-below-returns-4 : (t : ℕ) → filler-below-lts.Need-returns-4 (
+  flat-below-reads.Asked,
+  flat-below-reads.Learnt,
+  filler-set-reads.Asked,
+  filler-set-reads.Learnt,
+  set-below-below t,
+  set-below.Post,
+) (filler-below-at t) filler-below.Post filler-below-Inv-loop filler-below-μ-loop
+filler-below-returns-4 t c = ?
+
+abbrev set-below-Inv-loop : set-below-lts.InvT-loop
+set-below-Inv-loop table set c e s j depth at role filler k₀ k = ?
+
+abbrev set-below-μ-loop : set-below-lts.MeasureT-loop
+set-below-μ-loop table set c e s j depth at role filler k₀ k = ?
+
+-- src/lib.rt:84:9
+set-below-bit-of-requires : (t : ℕ) → set-below-lts.Need-bit-of-requires (
+  bit-of-reads.Asked,
+  bit-of-reads.Learnt,
+  filler-below-below t,
+  filler-below.Post,
+) (set-below-at t) set-below.Post set-below-Inv-loop set-below-μ-loop
+set-below-bit-of-requires t c κs = ?
+
+-- src/lib.rt:84:9
+set-below-returns : (t : ℕ) → set-below-lts.Need-returns (
+  bit-of-reads.Asked,
+  bit-of-reads.Learnt,
+  filler-below-below t,
+  filler-below.Post,
+) (set-below-at t) set-below.Post set-below-Inv-loop set-below-μ-loop
+set-below-returns t c = ?
+
+-- src/lib.rt:86:21
+set-below-mul-at : (t : ℕ) → set-below-lts.Need-mul-at (
+  bit-of-reads.Asked,
+  bit-of-reads.Learnt,
+  filler-below-below t,
+  filler-below.Post,
+) (set-below-at t) set-below.Post set-below-Inv-loop set-below-μ-loop
+set-below-mul-at t c = ?
+
+-- src/lib.rt:86:14
+set-below-add-at : (t : ℕ) → set-below-lts.Need-add-at (
+  bit-of-reads.Asked,
+  bit-of-reads.Learnt,
+  filler-below-below t,
+  filler-below.Post,
+) (set-below-at t) set-below.Post set-below-Inv-loop set-below-μ-loop
+set-below-add-at t c = ?
+
+-- src/lib.rt:87:16
+set-below-shared-slice-read-role : (t : ℕ) → set-below-lts.Need-shared-slice-read-role (
+  bit-of-reads.Asked,
+  bit-of-reads.Learnt,
+  filler-below-below t,
+  filler-below.Post,
+) (set-below-at t) set-below.Post set-below-Inv-loop set-below-μ-loop
+set-below-shared-slice-read-role t c = ?
+
+-- src/lib.rt:88:24
+set-below-add-filler : (t : ℕ) → set-below-lts.Need-add-filler (
+  bit-of-reads.Asked,
+  bit-of-reads.Learnt,
+  filler-below-below t,
+  filler-below.Post,
+) (set-below-at t) set-below.Post set-below-Inv-loop set-below-μ-loop
+set-below-add-filler t c = ?
+
+-- src/lib.rt:88:18
+set-below-shared-slice-read-filler : (t : ℕ) → set-below-lts.Need-shared-slice-read-filler (
+  bit-of-reads.Asked,
+  bit-of-reads.Learnt,
+  filler-below-below t,
+  filler-below.Post,
+) (set-below-at t) set-below.Post set-below-Inv-loop set-below-μ-loop
+set-below-shared-slice-read-filler t c = ?
+
+-- src/lib.rt:90:5
+set-below-loop-holds : (t : ℕ) → set-below-lts.Need-loop-holds (
+  bit-of-reads.Asked,
+  bit-of-reads.Learnt,
+  filler-below-below t,
+  filler-below.Post,
+) (set-below-at t) set-below.Post set-below-Inv-loop set-below-μ-loop
+set-below-loop-holds t c = ?
+
+-- src/lib.rt:91:26
+set-below-add-rest : (t : ℕ) → set-below-lts.Need-add-rest (
+  bit-of-reads.Asked,
+  bit-of-reads.Learnt,
+  filler-below-below t,
+  filler-below.Post,
+) (set-below-at t) set-below.Post set-below-Inv-loop set-below-μ-loop
+set-below-add-rest t c = ?
+
+-- src/lib.rt:91:26
+set-below-cast-rest : (t : ℕ) → set-below-lts.Need-cast-rest (
+  bit-of-reads.Asked,
+  bit-of-reads.Learnt,
+  filler-below-below t,
+  filler-below.Post,
+) (set-below-at t) set-below.Post set-below-Inv-loop set-below-μ-loop
+set-below-cast-rest t c = ?
+
+-- src/lib.rt:91:20
+set-below-shr-rest : (t : ℕ) → set-below-lts.Need-shr-rest (
+  bit-of-reads.Asked,
+  bit-of-reads.Learnt,
+  filler-below-below t,
+  filler-below.Post,
+) (set-below-at t) set-below.Post set-below-Inv-loop set-below-μ-loop
+set-below-shr-rest t c = ?
+
+-- src/lib.rt:93:13
+set-below-returns-2 : (t : ℕ) → set-below-lts.Need-returns-2 (
+  bit-of-reads.Asked,
+  bit-of-reads.Learnt,
+  filler-below-below t,
+  filler-below.Post,
+) (set-below-at t) set-below.Post set-below-Inv-loop set-below-μ-loop
+set-below-returns-2 t c = ?
+
+-- src/lib.rt:96:29
+set-below-mul-if4 : (t : ℕ) → set-below-lts.Need-mul-if4 (
+  bit-of-reads.Asked,
+  bit-of-reads.Learnt,
+  filler-below-below t,
+  filler-below.Post,
+) (set-below-at t) set-below.Post set-below-Inv-loop set-below-μ-loop
+set-below-mul-if4 t c = ?
+
+-- src/lib.rt:96:22
+set-below-add-if4 : (t : ℕ) → set-below-lts.Need-add-if4 (
+  bit-of-reads.Asked,
+  bit-of-reads.Learnt,
+  filler-below-below t,
+  filler-below.Post,
+) (set-below-at t) set-below.Post set-below-Inv-loop set-below-μ-loop
+set-below-add-if4 t c = ?
+
+-- src/lib.rt:96:16
+set-below-shared-slice-read-if4 : (t : ℕ) → set-below-lts.Need-shared-slice-read-if4 (
+  bit-of-reads.Asked,
+  bit-of-reads.Learnt,
+  filler-below-below t,
+  filler-below.Post,
+) (set-below-at t) set-below.Post set-below-Inv-loop set-below-μ-loop
+set-below-shared-slice-read-if4 t c = ?
+
+-- src/lib.rt:97:57
+set-below-add-filler-below : (t : ℕ) → set-below-lts.Need-add-filler-below (
+  bit-of-reads.Asked,
+  bit-of-reads.Learnt,
+  filler-below-below t,
+  filler-below.Post,
+) (set-below-at t) set-below.Post set-below-Inv-loop set-below-μ-loop
+set-below-add-filler-below t c = ?
+
+-- src/lib.rt:97:68
+set-below-mul-filler-below : (t : ℕ) → set-below-lts.Need-mul-filler-below (
+  bit-of-reads.Asked,
+  bit-of-reads.Learnt,
+  filler-below-below t,
+  filler-below.Post,
+) (set-below-at t) set-below.Post set-below-Inv-loop set-below-μ-loop
+set-below-mul-filler-below t c = ?
+
+-- src/lib.rt:97:57
+set-below-add-filler-below-2 : (t : ℕ) → set-below-lts.Need-add-filler-below-2 (
+  bit-of-reads.Asked,
+  bit-of-reads.Learnt,
+  filler-below-below t,
+  filler-below.Post,
+) (set-below-at t) set-below.Post set-below-Inv-loop set-below-μ-loop
+set-below-add-filler-below-2 t c = ?
+
+-- src/lib.rt:97:51
+set-below-shared-slice-read-filler-below :
+    (t : ℕ) → set-below-lts.Need-shared-slice-read-filler-below (
+      bit-of-reads.Asked,
+      bit-of-reads.Learnt,
+      filler-below-below t,
+      filler-below.Post,
+    ) (set-below-at t) set-below.Post set-below-Inv-loop set-below-μ-loop
+set-below-shared-slice-read-filler-below t c = ?
+
+-- src/lib.rt:97:20
+set-below-filler-below-requires : (t : ℕ) → set-below-lts.Need-filler-below-requires (
+  bit-of-reads.Asked,
+  bit-of-reads.Learnt,
+  filler-below-below t,
+  filler-below.Post,
+) (set-below-at t) set-below.Post set-below-Inv-loop set-below-μ-loop
+set-below-filler-below-requires t c κs = ?
+
+-- src/lib.rt:98:21
+set-below-returns-3 : (t : ℕ) → set-below-lts.Need-returns-3 (
+  bit-of-reads.Asked,
+  bit-of-reads.Learnt,
+  filler-below-below t,
+  filler-below.Post,
+) (set-below-at t) set-below.Post set-below-Inv-loop set-below-μ-loop
+set-below-returns-3 t c = ?
+
+-- src/lib.rt:102:9
+set-below-add-k : (t : ℕ) → set-below-lts.Need-add-k (
+  bit-of-reads.Asked,
+  bit-of-reads.Learnt,
+  filler-below-below t,
+  filler-below.Post,
+) (set-below-at t) set-below.Post set-below-Inv-loop set-below-μ-loop
+set-below-add-k t c = ?
+
+-- src/lib.rt:90:5
+set-below-loop-less : (t : ℕ) → set-below-lts.Need-loop-less (
+  bit-of-reads.Asked,
+  bit-of-reads.Learnt,
+  filler-below-below t,
+  filler-below.Post,
+) (set-below-at t) set-below.Post set-below-Inv-loop set-below-μ-loop
+set-below-loop-less t c = ?
+
+-- src/lib.rt:90:5
+set-below-loop-again : (t : ℕ) → set-below-lts.Need-loop-again (
+  bit-of-reads.Asked,
+  bit-of-reads.Learnt,
+  filler-below-below t,
+  filler-below.Post,
+) (set-below-at t) set-below.Post set-below-Inv-loop set-below-μ-loop
+set-below-loop-again t c = ?
+
+-- src/lib.rt:79:1
+set-below-returns-4 : (t : ℕ) → set-below-lts.Need-returns-4 (
+  bit-of-reads.Asked,
+  bit-of-reads.Learnt,
+  filler-below-below t,
+  filler-below.Post,
+) (set-below-at t) set-below.Post set-below-Inv-loop set-below-μ-loop
+set-below-returns-4 t c = ?
+
+pub +filler-below+set-below-spec : {M : Type 1} → statement M
++filler-below+set-below-spec = close μ-filler-below μ-set-below (λ t. filler-below-lts.spec (
+  flat-below-reads.Asked,
+  flat-below-reads.Learnt,
+  filler-set-reads.Asked,
+  filler-set-reads.Learnt,
+  set-below-below t,
+  set-below.Post,
+)
+    (filler-below-at t)
+    filler-below.Post
+    filler-below-Inv-loop
+    filler-below-μ-loop
+    (filler-below-flat-below-requires t)
+    (filler-below-returns t)
+    (filler-below-filler-set-requires t)
+    (filler-below-filler-set-requires-2 t)
+    (filler-below-loop-holds t)
+    (filler-below-add-loop t)
+    (filler-below-cast-rest t)
+    (filler-below-shr-rest t)
+    (filler-below-returns-2 t)
+    (filler-below-sub-set-below t)
+    (filler-below-set-below-requires t)
+    (filler-below-returns-3 t)
+    (filler-below-add-j t)
+    (filler-below-loop-less t)
+    (filler-below-loop-again t)
+    (filler-below-returns-4 t))
+    λ t. set-below-lts.spec
+    (bit-of-reads.Asked, bit-of-reads.Learnt, filler-below-below t, filler-below.Post)
+    (set-below-at t)
+    set-below.Post
+    set-below-Inv-loop
+    set-below-μ-loop
+    (set-below-bit-of-requires t)
+    (set-below-returns t)
+    (set-below-mul-at t)
+    (set-below-add-at t)
+    (set-below-shared-slice-read-role t)
+    (set-below-add-filler t)
+    (set-below-shared-slice-read-filler t)
+    (set-below-loop-holds t)
+    (set-below-add-rest t)
+    (set-below-cast-rest t)
+    (set-below-shr-rest t)
+    (set-below-returns-2 t)
+    (set-below-mul-if4 t)
+    (set-below-add-if4 t)
+    (set-below-shared-slice-read-if4 t)
+    (set-below-add-filler-below t)
+    (set-below-mul-filler-below t)
+    (set-below-add-filler-below-2 t)
+    (set-below-shared-slice-read-filler-below t)
+    (set-below-filler-below-requires t)
+    (set-below-returns-3 t)
+    (set-below-add-k t)
+    (set-below-loop-less t)
+    (set-below-loop-again t)
+    (set-below-returns-4 t)

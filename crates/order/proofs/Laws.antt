@@ -6,6 +6,7 @@
 --   set-.., entry-..                    == the set of a filler's, an entry's code, by its kind
 --   constant-kind, flat-kind            == the flat test, by the kinds of the codes
 --   row-.., atom-count                  == what the bytes of a row say
+--   any-.., all-..                      == a loop over numbers begins, and ends
 --   RowAsk, AtomAsk                     == what is asked of each row, of each atom of the right set
 --   set-constant, set-rows              == a conjunction below a constant, and below a restriction
 --   filler-flat, filler-atoms           == a filler below a filler
@@ -191,6 +192,9 @@ module _ (s : List ℕ) (a : Assignment) (c e : ℕ) (g : Given s a c e) where
   unfolding IsFiller
   row-filler k h = layout s (g .readable) .row-filler k (row-in k h) ∙ ap some (sym (row-code k h))
 
+  pub row-filler-next : (k : ℕ) → k < e → IsFiller s (byteAt s (10 + 2 * k + 1))
+  row-filler-next k h = let q : 11 + 2 * k ≡ 10 + 2 * k + 1 = omega arith in subst (λ (n : ℕ). IsFiller s (byteAt s n)) q (row-filler k h)
+
   -- the row of atom i, which is restriction i - c
   atom-role : (i : ℕ) → c ≤ i → i < c + e → atomRow (tableOf s) i .role ≡ byteAt s (10 + 2 * (i - c))
   unfolding atomRow
@@ -237,6 +241,21 @@ any-from c e p low = same-test (anyBelow (c + e) p) (anyBelow e (λ k. p (c + k)
     back : T (anyBelow e (λ k. p (c + k))) → T (anyBelow (c + e) p)
     back u = let r = anyBelow-found e (λ k. p (c + k)) u in let h : r .0 < e = r .1 in anyBelow-hit (c + e) (c + r .0) p (omega arith) (r .2)
 
+-- a loop over numbers begins, and ends
+pub any-start : (p : ℕ → Bool) → anyBelow 0 p ≡ false
+unfolding anyBelow
+any-start p = refl
+
+pub any-end : (n i : ℕ) (p : ℕ → Bool) → n ≤ i → i ≤ n → anyBelow i p ≡ false → anyBelow n p ≡ false
+any-end n i p h l e = let q : n ≡ i = omega arith in rw q e
+
+pub all-start : (p : ℕ → Bool) → allBelow 0 p ≡ true
+unfolding allBelow
+all-start p = refl
+
+pub all-end : (n i : ℕ) (p : ℕ → Bool) → n ≤ i → i ≤ n → allBelow i p ≡ true → allBelow n p ≡ true
+all-end n i p h l e = let q : n ≡ i = omega arith in rw q e
+
 -- what is asked of row k: is it in the set S, has it the role, and does its filler lie below the filler g
 unfoldable pub RowAsk : List ℕ → Assignment → ℕ → ℕ → ℕ → ℕ → ℕ → ℕ → Bool
 RowAsk s a c d S role g k = bit (c + k) S && (eqb (byteAt s (10 + 2 * k)) role && fillerBelow s a d (byteAt s (11 + 2 * k)) g)
@@ -277,12 +296,13 @@ module _ (s : List ℕ) (a : Assignment) (c e : ℕ) (g : Given s a c e) (d S j 
     ∙ any-one (λ i. eqb i j) (λ i. bit i S) (c + e) j (omega arith) (λ i. refl))
 
   -- below the restriction j: some row of the set has its role, and a filler below its own
-  pub set-rows : c ≤ j → j < c + e → setBelow s a d S j ≡ anyBelow e (RowAsk s a c d S (byteAt s (10 + 2 * (j - c))) (byteAt s (11 + 2 * (j - c))))
+  pub set-rows : c ≤ j → j < c + e → setBelow s a d S j ≡ anyBelow e (RowAsk s a c d S (byteAt s (10 + 2 * (j - c))) (byteAt s (10 + 2 * (j - c) + 1)))
   unfolding setBelow setTest RowAsk fillerBelow sameRole
   set-rows h l =
       ap (λ (n : ℕ). anyBelow n ask) (atom-count s a c e g)
       ∙ any-from c e ask low
       ∙ anyBelow-same e (λ k. ask (c + k)) (RowAsk s a c d S (byteAt s (10 + 2 * (j - c))) (byteAt s (11 + 2 * (j - c)))) same
+      ∙ ap (λ (n : ℕ). anyBelow e (RowAsk s a c d S (byteAt s (10 + 2 * (j - c))) (byteAt s n))) (next (j - c))
     where
       fb : Filler → Filler → Bool
       fb = fillerTest sameRole (tableOf s) a d
@@ -294,6 +314,8 @@ module _ (s : List ℕ) (a : Assignment) (c e : ℕ) (g : Given s a c e) (d S j 
       opened i = ap (λ b. bit i S && b) (atom-restriction sameRole (tableOf s) fb i j in-rows)
       low : (i : ℕ) → i < c → ask i ≡ false
       low i k = opened i ∙ rw (lt-ltb i (tableOf s .constants) (subst (λ (n : ℕ). i < n) (sym (constant-count s a c e g)) k)) (and-no (bit i S))
+      next : (k : ℕ) → 11 + 2 * k ≡ 10 + 2 * k + 1
+      next k = omega arith
       back : (k : ℕ) → c + k - c ≡ k
       back k = omega arith
       same : (k : ℕ) → k < e → ask (c + k) ≡ RowAsk s a c d S (byteAt s (10 + 2 * (j - c))) (byteAt s (11 + 2 * (j - c))) k

@@ -1,3 +1,13 @@
+use mathlib.Core.Path.{_≡_, refl, sym, _∙_}
+use mathlib.Core.Bool.{true, false}
+use mathlib.Core.Logic.{⊎-elim}
+use Prim.Native.Nat.{_+_, _*_, _-_, _≤_}
+use native.Mathlib.Omega.{arith}
+use borrow.Author.Needs.{needs}
+use borrow.Author.Tests.{not-true, not-false}
+use Rattle.el.specs.Test.{anyBelow, allBelow}
+use Rattle.el.specs.TestLaws.{anyBelow-step, anyBelow-true-at, allBelow-step, allBelow-false-at}
+use Rattle.order.proofs.Laws.{bit-on, bit-off, any-start, any-end, all-start, all-end, row-filler, row-filler-next, RowAsk, row-off, row-other, row-false, row-true, rows-rest, set-constant, set-rows, AtomAsk, atom-off, atom-true, atom-false, atoms-rest, filler-flat, filler-atoms}
 use Prim.Native.Nat.{ℕ, _<_}
 use borrow.Fn.Kinds.{In}
 use borrow.Fn.PlainCycle.{Measures, is, falls, and}
@@ -14,10 +24,10 @@ use Rattle.order.proofs.+filler_below+set_below.{statement}
 use Rattle.order.proofs.+filler_below+set_below.Tie.{close}
 
 abbrev μ-filler-below : Measures 2 filler-below-kinds.ps ℕ
-μ-filler-below κs a = ?
+μ-filler-below κs a = 2 * (a .1 .1 .1 .1 .1 .1 .0)
 
 abbrev μ-set-below : Measures 2 set-below-kinds.ps ℕ
-μ-set-below κs a = ?
+μ-set-below κs a = 2 * (a .1 .1 .1 .1 .1 .1 .0) + 1
 
 abbrev filler-below-at : ℕ → In 2 filler-below-kinds.ps
 filler-below-at t =
@@ -39,10 +49,10 @@ set-below-below t =
     and 2 set-below-kinds.ps (falls 2 set-below-kinds.ps _<_ μ-set-below t) set-below.Pre
 
 abbrev filler-below-Inv-loop : filler-below-lts.InvT-loop
-filler-below-Inv-loop table set c e f g depth left right j₀ j = ?
+filler-below-Inv-loop table set c e f g depth left right j₀ j = (j ≤ c + e) × (allBelow j (AtomAsk table set (depth - 1) left right) ≡ true)
 
 abbrev filler-below-μ-loop : filler-below-lts.MeasureT-loop
-filler-below-μ-loop table set c e f g depth left right j₀ j = ?
+filler-below-μ-loop table set c e f g depth left right j₀ j = c + e - j
 
 -- src/lib.rt:113:9
 filler-below-flat-below-requires : (t : ℕ) → filler-below-lts.Need-flat-below-requires (
@@ -53,7 +63,7 @@ filler-below-flat-below-requires : (t : ℕ) → filler-below-lts.Need-flat-belo
   set-below-below t,
   set-below.Post,
 ) (filler-below-at t) filler-below.Post filler-below-Inv-loop filler-below-μ-loop
-filler-below-flat-below-requires t c κs = ?
+filler-below-flat-below-requires t c κs = search needs
 
 -- src/lib.rt:113:9
 filler-below-returns : (t : ℕ) → filler-below-lts.Need-returns (
@@ -64,7 +74,7 @@ filler-below-returns : (t : ℕ) → filler-below-lts.Need-returns (
   set-below-below t,
   set-below.Post,
 ) (filler-below-at t) filler-below.Post filler-below-Inv-loop filler-below-μ-loop
-filler-below-returns t c = ?
+filler-below-returns t c = c .flat-below .ensures ∙ filler-flat _ _ _ _ _ (c .before .if1 .taken)
 
 -- src/lib.rt:115:9
 filler-below-filler-set-requires : (t : ℕ) → filler-below-lts.Need-filler-set-requires (
@@ -75,7 +85,7 @@ filler-below-filler-set-requires : (t : ℕ) → filler-below-lts.Need-filler-se
   set-below-below t,
   set-below.Post,
 ) (filler-below-at t) filler-below.Post filler-below-Inv-loop filler-below-μ-loop
-filler-below-filler-set-requires t c κs = ?
+filler-below-filler-set-requires t c κs = (c .before .before .before .pre .1 .0, c .before .before .before .pre .1 .1)
 
 -- src/lib.rt:116:9
 filler-below-filler-set-requires-2 : (t : ℕ) → filler-below-lts.Need-filler-set-requires-2 (
@@ -86,7 +96,7 @@ filler-below-filler-set-requires-2 : (t : ℕ) → filler-below-lts.Need-filler-
   set-below-below t,
   set-below.Post,
 ) (filler-below-at t) filler-below.Post filler-below-Inv-loop filler-below-μ-loop
-filler-below-filler-set-requires-2 t c κs = ?
+filler-below-filler-set-requires-2 t c κs = (c .before .before .before .before .pre .1 .0, c .before .before .before .before .pre .1 .2)
 
 -- src/lib.rt:118:5
 filler-below-loop-holds : (t : ℕ) → filler-below-lts.Need-loop-holds (
@@ -97,7 +107,7 @@ filler-below-loop-holds : (t : ℕ) → filler-below-lts.Need-loop-holds (
   set-below-below t,
   set-below.Post,
 ) (filler-below-at t) filler-below.Post filler-below-Inv-loop filler-below-μ-loop
-filler-below-loop-holds t c = ?
+filler-below-loop-holds t c = (omega arith, all-start _)
 
 -- src/lib.rt:118:15
 filler-below-add-loop : (t : ℕ) → filler-below-lts.Need-add-loop (
@@ -108,7 +118,7 @@ filler-below-add-loop : (t : ℕ) → filler-below-lts.Need-add-loop (
   set-below-below t,
   set-below.Post,
 ) (filler-below-at t) filler-below.Post filler-below-Inv-loop filler-below-μ-loop
-filler-below-add-loop t c = ?
+filler-below-add-loop t c = omega arith
 
 -- src/lib.rt:119:29
 filler-below-cast-rest : (t : ℕ) → filler-below-lts.Need-cast-rest (
@@ -119,7 +129,7 @@ filler-below-cast-rest : (t : ℕ) → filler-below-lts.Need-cast-rest (
   set-below-below t,
   set-below.Post,
 ) (filler-below-at t) filler-below.Post filler-below-Inv-loop filler-below-μ-loop
-filler-below-cast-rest t c = ?
+filler-below-cast-rest t c = omega arith
 
 -- src/lib.rt:119:20
 filler-below-shr-rest : (t : ℕ) → filler-below-lts.Need-shr-rest (
@@ -130,7 +140,7 @@ filler-below-shr-rest : (t : ℕ) → filler-below-lts.Need-shr-rest (
   set-below-below t,
   set-below.Post,
 ) (filler-below-at t) filler-below.Post filler-below-Inv-loop filler-below-μ-loop
-filler-below-shr-rest t c = ?
+filler-below-shr-rest t c = omega arith
 
 -- src/lib.rt:121:13
 filler-below-returns-2 : (t : ℕ) → filler-below-lts.Need-returns-2 (
@@ -141,7 +151,7 @@ filler-below-returns-2 : (t : ℕ) → filler-below-lts.Need-returns-2 (
   set-below-below t,
   set-below.Post,
 ) (filler-below-at t) filler-below.Post filler-below-Inv-loop filler-below-μ-loop
-filler-below-returns-2 t c = ?
+filler-below-returns-2 t c = sym (filler-atoms _ _ _ _ (c .before .before .before .before .before .before .before .before .pre .1 .0) _ _ _ _ _ (c .before .before .before .before .before .if1 .left) (c .before .before .before .before .filler-set .ensures) (c .before .before .before .filler-set2 .ensures) ∙ atoms-rest _ _ _ _ _ _ _ (c .before .before .loop .inv .1) (c .if2 .taken))
 
 -- src/lib.rt:124:54
 filler-below-sub-set-below : (t : ℕ) → filler-below-lts.Need-sub-set-below (
@@ -152,7 +162,7 @@ filler-below-sub-set-below : (t : ℕ) → filler-below-lts.Need-sub-set-below (
   set-below-below t,
   set-below.Post,
 ) (filler-below-at t) filler-below.Post filler-below-Inv-loop filler-below-μ-loop
-filler-below-sub-set-below t c = ?
+filler-below-sub-set-below t c = omega arith
 
 -- src/lib.rt:124:17
 filler-below-set-below-requires : (t : ℕ) → filler-below-lts.Need-set-below-requires (
@@ -163,7 +173,7 @@ filler-below-set-below-requires : (t : ℕ) → filler-below-lts.Need-set-below-
   set-below-below t,
   set-below.Post,
 ) (filler-below-at t) filler-below.Post filler-below-Inv-loop filler-below-μ-loop
-filler-below-set-below-requires t c κs = ?
+filler-below-set-below-requires t c κs = (omega arith, (c .before .before .before .before .before .before .before .before .before .pre .1 .0, omega arith))
 
 -- src/lib.rt:125:17
 filler-below-returns-3 : (t : ℕ) → filler-below-lts.Need-returns-3 (
@@ -174,7 +184,7 @@ filler-below-returns-3 : (t : ℕ) → filler-below-lts.Need-returns-3 (
   set-below-below t,
   set-below.Post,
 ) (filler-below-at t) filler-below.Post filler-below-Inv-loop filler-below-μ-loop
-filler-below-returns-3 t c = ?
+filler-below-returns-3 t c = sym (filler-atoms _ _ _ _ (c .before .before .before .before .before .before .before .before .before .before .before .pre .1 .0) _ _ _ _ _ (c .before .before .before .before .before .before .before .before .if1 .left) (c .before .before .before .before .before .before .before .filler-set .ensures) (c .before .before .before .before .before .before .filler-set2 .ensures) ∙ allBelow-false-at _ _ _ (c .before .before .before .before .loop-test .taken) (atom-false _ _ _ _ _ _ (bit-on _ _ (c .before .before .if3 .taken)) (sym (c .before .set-below .ensures) ∙ not-true _ (c .if4 .taken))))
 
 -- src/lib.rt:128:9
 filler-below-add-j : (t : ℕ) → filler-below-lts.Need-add-j (
@@ -185,7 +195,7 @@ filler-below-add-j : (t : ℕ) → filler-below-lts.Need-add-j (
   set-below-below t,
   set-below.Post,
 ) (filler-below-at t) filler-below.Post filler-below-Inv-loop filler-below-μ-loop
-filler-below-add-j t c = ?
+filler-below-add-j t c = omega arith
 
 -- src/lib.rt:118:5
 filler-below-loop-less : (t : ℕ) → filler-below-lts.Need-loop-less (
@@ -196,7 +206,7 @@ filler-below-loop-less : (t : ℕ) → filler-below-lts.Need-loop-less (
   set-below-below t,
   set-below.Post,
 ) (filler-below-at t) filler-below.Post filler-below-Inv-loop filler-below-μ-loop
-filler-below-loop-less t c = ?
+filler-below-loop-less t c = omega arith
 
 -- src/lib.rt:118:5
 filler-below-loop-again : (t : ℕ) → filler-below-lts.Need-loop-again (
@@ -207,7 +217,10 @@ filler-below-loop-again : (t : ℕ) → filler-below-lts.Need-loop-again (
   set-below-below t,
   set-below.Post,
 ) (filler-below-at t) filler-below.Post filler-below-Inv-loop filler-below-μ-loop
-filler-below-loop-again t c = ?
+filler-below-loop-again t c = 
+    (omega arith, allBelow-step _ _ (c .before .before .before .loop .inv .1)
+    (⊎-elim (λ w. atom-true _ _ _ _ _ _ (sym (w .1 .ensures) ∙ not-false _ (w .2 .left)))
+    (λ w. atom-off _ _ _ _ _ _ (bit-off _ _ (w .left))) (c .if3 .came)))
 
 -- src/lib.rt:108:1
 filler-below-returns-4 : (t : ℕ) → filler-below-lts.Need-returns-4 (
@@ -218,13 +231,13 @@ filler-below-returns-4 : (t : ℕ) → filler-below-lts.Need-returns-4 (
   set-below-below t,
   set-below.Post,
 ) (filler-below-at t) filler-below.Post filler-below-Inv-loop filler-below-μ-loop
-filler-below-returns-4 t c = ?
+filler-below-returns-4 t c = sym (filler-atoms _ _ _ _ (c .before .before .before .before .before .before .before .pre .1 .0) _ _ _ _ _ (c .before .before .before .before .if1 .left) (c .before .before .before .filler-set .ensures) (c .before .before .filler-set2 .ensures) ∙ all-end _ _ _ (c .loop-test .left) (c .before .loop .inv .0) (c .before .loop .inv .1))
 
 abbrev set-below-Inv-loop : set-below-lts.InvT-loop
-set-below-Inv-loop table set c e s j depth at role filler k₀ k = ?
+set-below-Inv-loop table set c e s j depth at role filler k₀ k = (k ≤ e) × (anyBelow k (RowAsk table set c depth s role filler) ≡ false)
 
 abbrev set-below-μ-loop : set-below-lts.MeasureT-loop
-set-below-μ-loop table set c e s j depth at role filler k₀ k = ?
+set-below-μ-loop table set c e s j depth at role filler k₀ k = e - k
 
 -- src/lib.rt:84:9
 set-below-bit-of-requires : (t : ℕ) → set-below-lts.Need-bit-of-requires (
@@ -233,7 +246,7 @@ set-below-bit-of-requires : (t : ℕ) → set-below-lts.Need-bit-of-requires (
   filler-below-below t,
   filler-below.Post,
 ) (set-below-at t) set-below.Post set-below-Inv-loop set-below-μ-loop
-set-below-bit-of-requires t c κs = ?
+set-below-bit-of-requires t c κs = omega arith
 
 -- src/lib.rt:84:9
 set-below-returns : (t : ℕ) → set-below-lts.Need-returns (
@@ -242,7 +255,7 @@ set-below-returns : (t : ℕ) → set-below-lts.Need-returns (
   filler-below-below t,
   filler-below.Post,
 ) (set-below-at t) set-below.Post set-below-Inv-loop set-below-μ-loop
-set-below-returns t c = ?
+set-below-returns t c = c .bit-of .ensures ∙ set-constant _ _ _ _ (c .before .before .before .before .pre .1 .0) _ _ _ (c .before .if1 .taken)
 
 -- src/lib.rt:86:21
 set-below-mul-at : (t : ℕ) → set-below-lts.Need-mul-at (
@@ -251,7 +264,7 @@ set-below-mul-at : (t : ℕ) → set-below-lts.Need-mul-at (
   filler-below-below t,
   filler-below.Post,
 ) (set-below-at t) set-below.Post set-below-Inv-loop set-below-μ-loop
-set-below-mul-at t c = ?
+set-below-mul-at t c = omega arith
 
 -- src/lib.rt:86:14
 set-below-add-at : (t : ℕ) → set-below-lts.Need-add-at (
@@ -260,7 +273,7 @@ set-below-add-at : (t : ℕ) → set-below-lts.Need-add-at (
   filler-below-below t,
   filler-below.Post,
 ) (set-below-at t) set-below.Post set-below-Inv-loop set-below-μ-loop
-set-below-add-at t c = ?
+set-below-add-at t c = omega arith
 
 -- src/lib.rt:87:16
 set-below-shared-slice-read-role : (t : ℕ) → set-below-lts.Need-shared-slice-read-role (
@@ -269,7 +282,7 @@ set-below-shared-slice-read-role : (t : ℕ) → set-below-lts.Need-shared-slice
   filler-below-below t,
   filler-below.Post,
 ) (set-below-at t) set-below.Post set-below-Inv-loop set-below-μ-loop
-set-below-shared-slice-read-role t c = ?
+set-below-shared-slice-read-role t c = omega arith
 
 -- src/lib.rt:88:24
 set-below-add-filler : (t : ℕ) → set-below-lts.Need-add-filler (
@@ -278,7 +291,7 @@ set-below-add-filler : (t : ℕ) → set-below-lts.Need-add-filler (
   filler-below-below t,
   filler-below.Post,
 ) (set-below-at t) set-below.Post set-below-Inv-loop set-below-μ-loop
-set-below-add-filler t c = ?
+set-below-add-filler t c = omega arith
 
 -- src/lib.rt:88:18
 set-below-shared-slice-read-filler : (t : ℕ) → set-below-lts.Need-shared-slice-read-filler (
@@ -287,7 +300,7 @@ set-below-shared-slice-read-filler : (t : ℕ) → set-below-lts.Need-shared-sli
   filler-below-below t,
   filler-below.Post,
 ) (set-below-at t) set-below.Post set-below-Inv-loop set-below-μ-loop
-set-below-shared-slice-read-filler t c = ?
+set-below-shared-slice-read-filler t c = omega arith
 
 -- src/lib.rt:90:5
 set-below-loop-holds : (t : ℕ) → set-below-lts.Need-loop-holds (
@@ -296,7 +309,7 @@ set-below-loop-holds : (t : ℕ) → set-below-lts.Need-loop-holds (
   filler-below-below t,
   filler-below.Post,
 ) (set-below-at t) set-below.Post set-below-Inv-loop set-below-μ-loop
-set-below-loop-holds t c = ?
+set-below-loop-holds t c = (omega arith, any-start _)
 
 -- src/lib.rt:91:26
 set-below-add-rest : (t : ℕ) → set-below-lts.Need-add-rest (
@@ -305,7 +318,7 @@ set-below-add-rest : (t : ℕ) → set-below-lts.Need-add-rest (
   filler-below-below t,
   filler-below.Post,
 ) (set-below-at t) set-below.Post set-below-Inv-loop set-below-μ-loop
-set-below-add-rest t c = ?
+set-below-add-rest t c = omega arith
 
 -- src/lib.rt:91:26
 set-below-cast-rest : (t : ℕ) → set-below-lts.Need-cast-rest (
@@ -314,7 +327,7 @@ set-below-cast-rest : (t : ℕ) → set-below-lts.Need-cast-rest (
   filler-below-below t,
   filler-below.Post,
 ) (set-below-at t) set-below.Post set-below-Inv-loop set-below-μ-loop
-set-below-cast-rest t c = ?
+set-below-cast-rest t c = omega arith
 
 -- src/lib.rt:91:20
 set-below-shr-rest : (t : ℕ) → set-below-lts.Need-shr-rest (
@@ -323,7 +336,7 @@ set-below-shr-rest : (t : ℕ) → set-below-lts.Need-shr-rest (
   filler-below-below t,
   filler-below.Post,
 ) (set-below-at t) set-below.Post set-below-Inv-loop set-below-μ-loop
-set-below-shr-rest t c = ?
+set-below-shr-rest t c = omega arith
 
 -- src/lib.rt:93:13
 set-below-returns-2 : (t : ℕ) → set-below-lts.Need-returns-2 (
@@ -332,7 +345,7 @@ set-below-returns-2 : (t : ℕ) → set-below-lts.Need-returns-2 (
   filler-below-below t,
   filler-below.Post,
 ) (set-below-at t) set-below.Post set-below-Inv-loop set-below-μ-loop
-set-below-returns-2 t c = ?
+set-below-returns-2 t c = sym (set-rows _ _ _ _ (c .before .before .before .before .before .before .before .before .pre .1 .0) _ _ _ (c .before .before .before .before .before .if1 .left) (c .before .before .before .before .before .before .before .before .pre .1 .1) ∙ rows-rest _ _ _ _ _ _ _ _ _ (c .before .before .loop .inv .1) (c .if2 .taken))
 
 -- src/lib.rt:96:29
 set-below-mul-if4 : (t : ℕ) → set-below-lts.Need-mul-if4 (
@@ -341,7 +354,7 @@ set-below-mul-if4 : (t : ℕ) → set-below-lts.Need-mul-if4 (
   filler-below-below t,
   filler-below.Post,
 ) (set-below-at t) set-below.Post set-below-Inv-loop set-below-μ-loop
-set-below-mul-if4 t c = ?
+set-below-mul-if4 t c = omega arith
 
 -- src/lib.rt:96:22
 set-below-add-if4 : (t : ℕ) → set-below-lts.Need-add-if4 (
@@ -350,7 +363,7 @@ set-below-add-if4 : (t : ℕ) → set-below-lts.Need-add-if4 (
   filler-below-below t,
   filler-below.Post,
 ) (set-below-at t) set-below.Post set-below-Inv-loop set-below-μ-loop
-set-below-add-if4 t c = ?
+set-below-add-if4 t c = omega arith
 
 -- src/lib.rt:96:16
 set-below-shared-slice-read-if4 : (t : ℕ) → set-below-lts.Need-shared-slice-read-if4 (
@@ -359,7 +372,7 @@ set-below-shared-slice-read-if4 : (t : ℕ) → set-below-lts.Need-shared-slice-
   filler-below-below t,
   filler-below.Post,
 ) (set-below-at t) set-below.Post set-below-Inv-loop set-below-μ-loop
-set-below-shared-slice-read-if4 t c = ?
+set-below-shared-slice-read-if4 t c = omega arith
 
 -- src/lib.rt:97:57
 set-below-add-filler-below : (t : ℕ) → set-below-lts.Need-add-filler-below (
@@ -368,7 +381,7 @@ set-below-add-filler-below : (t : ℕ) → set-below-lts.Need-add-filler-below (
   filler-below-below t,
   filler-below.Post,
 ) (set-below-at t) set-below.Post set-below-Inv-loop set-below-μ-loop
-set-below-add-filler-below t c = ?
+set-below-add-filler-below t c = omega arith
 
 -- src/lib.rt:97:68
 set-below-mul-filler-below : (t : ℕ) → set-below-lts.Need-mul-filler-below (
@@ -377,7 +390,7 @@ set-below-mul-filler-below : (t : ℕ) → set-below-lts.Need-mul-filler-below (
   filler-below-below t,
   filler-below.Post,
 ) (set-below-at t) set-below.Post set-below-Inv-loop set-below-μ-loop
-set-below-mul-filler-below t c = ?
+set-below-mul-filler-below t c = omega arith
 
 -- src/lib.rt:97:57
 set-below-add-filler-below-2 : (t : ℕ) → set-below-lts.Need-add-filler-below-2 (
@@ -386,7 +399,7 @@ set-below-add-filler-below-2 : (t : ℕ) → set-below-lts.Need-add-filler-below
   filler-below-below t,
   filler-below.Post,
 ) (set-below-at t) set-below.Post set-below-Inv-loop set-below-μ-loop
-set-below-add-filler-below-2 t c = ?
+set-below-add-filler-below-2 t c = omega arith
 
 -- src/lib.rt:97:51
 set-below-shared-slice-read-filler-below :
@@ -396,7 +409,7 @@ set-below-shared-slice-read-filler-below :
       filler-below-below t,
       filler-below.Post,
     ) (set-below-at t) set-below.Post set-below-Inv-loop set-below-μ-loop
-set-below-shared-slice-read-filler-below t c = ?
+set-below-shared-slice-read-filler-below t c = omega arith
 
 -- src/lib.rt:97:20
 set-below-filler-below-requires : (t : ℕ) → set-below-lts.Need-filler-below-requires (
@@ -405,7 +418,8 @@ set-below-filler-below-requires : (t : ℕ) → set-below-lts.Need-filler-below-
   filler-below-below t,
   filler-below.Post,
 ) (set-below-at t) set-below.Post set-below-Inv-loop set-below-μ-loop
-set-below-filler-below-requires t c κs = ?
+set-below-filler-below-requires t c κs =
+    (omega arith, (c .before .before .before .before .before .before .before .before .before .before .before .before .pre .1 .0, row-filler _ _ _ _ (c .before .before .before .before .before .before .before .before .before .before .before .before .pre .1 .0) _ (c .before .before .before .before .before .loop-test .taken), row-filler-next _ _ _ _ (c .before .before .before .before .before .before .before .before .before .before .before .before .pre .1 .0) _ (omega arith)))
 
 -- src/lib.rt:98:21
 set-below-returns-3 : (t : ℕ) → set-below-lts.Need-returns-3 (
@@ -414,7 +428,7 @@ set-below-returns-3 : (t : ℕ) → set-below-lts.Need-returns-3 (
   filler-below-below t,
   filler-below.Post,
 ) (set-below-at t) set-below.Post set-below-Inv-loop set-below-μ-loop
-set-below-returns-3 t c = ?
+set-below-returns-3 t c = sym (set-rows _ _ _ _ (c .before .before .before .before .before .before .before .before .before .before .before .before .before .before .pre .1 .0) _ _ _ (c .before .before .before .before .before .before .before .before .before .before .before .if1 .left) (c .before .before .before .before .before .before .before .before .before .before .before .before .before .before .pre .1 .1) ∙ anyBelow-true-at _ _ _ (c .before .before .before .before .before .before .before .loop-test .taken) (row-true _ _ _ _ _ _ _ _ (bit-on _ _ (c .before .before .before .before .before .if3 .taken)) (c .before .before .before .if4 .taken) (sym (c .before .filler-below .ensures) ∙ c .if5 .taken)))
 
 -- src/lib.rt:102:9
 set-below-add-k : (t : ℕ) → set-below-lts.Need-add-k (
@@ -423,7 +437,7 @@ set-below-add-k : (t : ℕ) → set-below-lts.Need-add-k (
   filler-below-below t,
   filler-below.Post,
 ) (set-below-at t) set-below.Post set-below-Inv-loop set-below-μ-loop
-set-below-add-k t c = ?
+set-below-add-k t c = omega arith
 
 -- src/lib.rt:90:5
 set-below-loop-less : (t : ℕ) → set-below-lts.Need-loop-less (
@@ -432,7 +446,7 @@ set-below-loop-less : (t : ℕ) → set-below-lts.Need-loop-less (
   filler-below-below t,
   filler-below.Post,
 ) (set-below-at t) set-below.Post set-below-Inv-loop set-below-μ-loop
-set-below-loop-less t c = ?
+set-below-loop-less t c = omega arith
 
 -- src/lib.rt:90:5
 set-below-loop-again : (t : ℕ) → set-below-lts.Need-loop-again (
@@ -441,7 +455,10 @@ set-below-loop-again : (t : ℕ) → set-below-lts.Need-loop-again (
   filler-below-below t,
   filler-below.Post,
 ) (set-below-at t) set-below.Post set-below-Inv-loop set-below-μ-loop
-set-below-loop-again t c = ?
+set-below-loop-again t c = 
+    (omega arith, anyBelow-step _ _ (c .before .before .before .loop .inv .1)
+    (⊎-elim (λ w. row-false _ _ _ _ _ _ _ _ (sym (w .4 .ensures) ∙ w .5 .left))
+    (⊎-elim (λ w. row-other _ _ _ _ _ _ _ _ (w .2 .left)) (λ w. row-off _ _ _ _ _ _ _ _ (bit-off _ _ (w .left)))) (c .if3 .came)))
 
 -- src/lib.rt:79:1
 set-below-returns-4 : (t : ℕ) → set-below-lts.Need-returns-4 (
@@ -450,7 +467,7 @@ set-below-returns-4 : (t : ℕ) → set-below-lts.Need-returns-4 (
   filler-below-below t,
   filler-below.Post,
 ) (set-below-at t) set-below.Post set-below-Inv-loop set-below-μ-loop
-set-below-returns-4 t c = ?
+set-below-returns-4 t c = sym (set-rows _ _ _ _ (c .before .before .before .before .before .before .before .pre .1 .0) _ _ _ (c .before .before .before .before .if1 .left) (c .before .before .before .before .before .before .before .pre .1 .1) ∙ any-end _ _ _ (c .loop-test .left) (c .before .loop .inv .0) (c .before .loop .inv .1))
 
 pub +filler-below+set-below-spec : {M : Type 1} → statement M
 +filler-below+set-below-spec = close μ-filler-below μ-set-below (λ t. filler-below-lts.spec (

@@ -10,6 +10,11 @@
 --   RowAsk, AtomAsk                     == what is asked of each row, of each atom of the right set
 --   set-constant, set-rows              == a conjunction below a constant, and below a restriction
 --   filler-flat, filler-atoms           == a filler below a filler
+--   given                               == what the two questions are given
+--   line-inside, left-.., right-..      == what the bytes of a line say
+--   EntryAsk, LineAsk                   == what is asked of each left entry, of each atom of the right entry
+--   left-entries                        == some left entry lies below an atom
+--   line-atoms                          == the line holds
 use mathlib.Core.Path.{_≡_, refl, sym, ap, ap₂, subst, _∙_}
 use mathlib.Core.Bool.{Bool, true, false, _&&_, _||_, not, cond}
 use mathlib.Core.Logic.{_⊎_, inl, inr}
@@ -24,18 +29,19 @@ use lib.ListN.{length, getD}
 use lib.Pow.{pow-lt, shr-shr}
 use borrow.Author.Tests.{eq-eqb, ne-eqb, lt-ltb, le-ltb, ltb-true, ltb-false}
 use Rattle.el.specs.Description.{sameRole}
-use Rattle.el.specs.Test.{anyBelow, allBelow, bit}
-use Rattle.el.specs.TestLaws.{same-test, is-true, true-is, false-not, anyBelow-hit, anyBelow-found, anyBelow-none, anyBelow-same, anyBelow-false-at, allBelow-same, allBelow-every, allBelow-true-at}
-use Rattle.el.specs.Table.{Filler, topF, constantF, variableF, Entry, constant, restriction, variable, Row, Table, rowAt, atoms}
-use Rattle.el.specs.Assignment.{Assignment, setOf}
+use Rattle.el.specs.Test.{anyBelow, allBelow, anyOf, everyOf, bit}
+use Rattle.el.specs.TestLaws.{and-right, anyOf-hit, anyOf-found, everyOf-at, same-test, is-true, true-is, false-not, anyBelow-hit, anyBelow-found, anyBelow-none, anyBelow-same, anyBelow-false-at, allBelow-same, allBelow-every, allBelow-true-at}
+use Rattle.el.specs.Table.{Filler, topF, constantF, variableF, Entry, constant, restriction, variable, Row, Line, Table, rowAt, atoms, rowDeclared, lineDeclared, declared}
+use Rattle.el.specs.Meaning.{holds}
+use Rattle.el.specs.Assignment.{Assignment, setOf, acyclic, induced}
 use Rattle.table.specs.declared.Kind.{Kind}
 use Rattle.table.specs.declared.Kind.the-variants.{Top, Constant, Restriction, Variable, Other}
 use Rattle.table.specs.Code.{kindOf, within, fillerOf, fillerOfKind, entryOf, entryOfKind}
 use Rattle.table.specs.Reading.{byteAt, reading, isReadable, tableOf}
-use Rattle.table.specs.Layout.{Layout}
+use Rattle.table.specs.Layout.{lineAt, lineStart, Layout}
 use Rattle.table.specs.LayoutLaws.{within-some, layout}
-use Rattle.order.specs.Rule.{fillerSet, entrySet, atomRow, isConstant, flatTest, atomTest, setTest, fillerTest}
-use Rattle.order.specs.RuleLaws.{any-one}
+use Rattle.order.specs.Rule.{fillerSet, entrySet, atomRow, isConstant, flatTest, atomTest, setTest, fillerTest, entryTest, leftTest, lineTest}
+use Rattle.order.specs.RuleLaws.{any-one, line-rule}
 use Rattle.order.specs.Given.{fillerFromKind, fillerFrom, entryFromKind, entryFrom, IsFiller, IsEntry, Given, setBelow, fillerBelow}
 
 ----------------------------------------------------------------------------------------------------
@@ -375,3 +381,129 @@ filler-atoms s a c e q (suc d) f g L R n l r =
   where
     less : (k : ℕ) → k ≡ suc k - 1
     less k = omega arith
+
+----------------------------------------------------------------------------------------------------
+-- A line
+
+pub given : (s : List ℕ) (a : Assignment) (c e : ℕ) → T (isReadable (reading s)) → length a ≡ 12 → c ≡ byteAt s 5 → e ≡ byteAt s 8 → Given s a c e
+given s a c e ok m p q =
+    record {
+      readable = ok;
+      constants = p;
+      restrictions = q;
+      few-atoms = let h : byteAt s 5 + byteAt s 8 ≤ 24 = layout s ok .few-atoms in omega arith;
+      rows-in = inside e q;
+      sets = m
+    }
+  where
+    inside : (k : ℕ) → k ≡ byteAt s 8 → 10 + 2 * k ≤ length s
+    inside zero u = layout s ok .header-in
+    inside (suc k) u = let h : 11 + 2 * k < length s = layout s ok .row-in k (omega arith) in omega arith
+
+-- line n begins at the byte `at`
+module _ (s : List ℕ) (ok : T (isReadable (reading s))) (n at : ℕ) (few : n < byteAt s 9) (begins : at ≡ lineStart s n) where
+  pub line-inside : at + byteAt s at + 2 ≤ length s
+  line-inside = subst (λ (k : ℕ). k + byteAt s k + 2 ≤ length s) (sym begins) (layout s ok .line-in n few)
+
+  left-length : length (lineAt (tableOf s .lines) n .left) ≡ byteAt s at
+  left-length = layout s ok .line-left n few ∙ ap (byteAt s) (sym begins)
+
+  left-code : (i : ℕ) → i < byteAt s at → entryOf (byteAt s 5) (byteAt s 8) (byteAt s 7) (byteAt s (at + 1 + i)) ≡ some (getD (lineAt (tableOf s .lines) n .left) i (constant 0))
+  left-code i h =
+      ap (λ (k : ℕ). entryOf (byteAt s 5) (byteAt s 8) (byteAt s 7) (byteAt s (k + 1 + i))) begins
+      ∙ layout s ok .line-entry n i few (subst (λ (k : ℕ). i < byteAt s k) begins h)
+
+  right-code : entryOf (byteAt s 5) (byteAt s 8) (byteAt s 7) (byteAt s (at + 1 + byteAt s at)) ≡ some (lineAt (tableOf s .lines) n .right)
+  right-code = ap (λ (k : ℕ). entryOf (byteAt s 5) (byteAt s 8) (byteAt s 7) (byteAt s (k + 1 + byteAt s k))) begins ∙ layout s ok .line-right n few
+
+  left-from : (i : ℕ) → i < byteAt s at → entryFrom (byteAt s (at + 1 + i)) ≡ getD (lineAt (tableOf s .lines) n .left) i (constant 0)
+  left-from i h = entry-read s (byteAt s (at + 1 + i)) (getD (lineAt (tableOf s .lines) n .left) i (constant 0)) (left-code i h)
+
+  right-from : entryFrom (byteAt s (at + 1 + byteAt s at)) ≡ lineAt (tableOf s .lines) n .right
+  right-from = entry-read s (byteAt s (at + 1 + byteAt s at)) (lineAt (tableOf s .lines) n .right) right-code
+
+  -- p is the left count
+  module _ (p : ℕ) (many : p ≡ byteAt s at) where
+    pub left-entry : (i : ℕ) → i < p → IsEntry s (byteAt s (at + 1 + i))
+    unfolding IsEntry
+    left-entry i h = let l : i < byteAt s at = omega arith in left-code i l ∙ ap some (sym (left-from i l))
+
+    pub right-entry : IsEntry s (byteAt s (at + 1 + p))
+    unfolding IsEntry
+    right-entry = rw many (right-code ∙ ap some (sym right-from))
+
+-- a test over a list asks each place
+any-places : {A : Type 0} (p : A → Bool) (l : List A) (d : A) → anyOf p l ≡ anyBelow (length l) (λ i. p (getD l i d))
+any-places p l d =
+    same-test (anyOf p l) (anyBelow (length l) (λ i. p (getD l i d)))
+    (λ u. let r = anyOf-found p l d u in anyBelow-hit (length l) (r .0) (λ i. p (getD l i d)) (r .1) (r .2))
+    (λ u. let r = anyBelow-found (length l) (λ i. p (getD l i d)) u in anyOf-hit p l (r .0) d (r .1) (r .2))
+
+-- what is asked of left entry i: does its set lie below atom j
+unfoldable pub EntryAsk : List ℕ → Assignment → ℕ → ℕ → ℕ → ℕ → Bool
+EntryAsk s a v at j i = setBelow s a v (entrySet (tableOf s) a (entryFrom (byteAt s (at + 1 + i)))) j
+
+module _ (s : List ℕ) (a : Assignment) (v at j i S : ℕ) (set : S ≡ entrySet (tableOf s) a (entryFrom (byteAt s (at + 1 + i)))) where
+  pub entry-answer : (b : Bool) → setBelow s a v S j ≡ b → EntryAsk s a v at j i ≡ b
+  unfolding EntryAsk
+  entry-answer b e = ap (λ (R : ℕ). setBelow s a v R j) (sym set) ∙ e
+
+module _ (s : List ℕ) (a : Assignment) (ok : T (isReadable (reading s))) (n at : ℕ) (few : n < byteAt s 9) (begins : at ≡ lineStart s n) (p : ℕ) (many : p ≡ byteAt s at) where
+  pub left-entries : (v : ℕ) → v ≡ byteAt s 7 → (j : ℕ) → leftTest sameRole (tableOf s) a (lineAt (tableOf s .lines) n .left) j ≡ anyBelow p (EntryAsk s a v at j)
+  unfolding leftTest entryTest EntryAsk setBelow
+  left-entries v w j =
+      any-places (λ x. setTest sameRole (tableOf s) (fillerTest sameRole (tableOf s) a (tableOf s .variables)) (entrySet (tableOf s) a x) j) (lineAt (tableOf s .lines) n .left) (constant 0)
+      ∙ ap (λ (k : ℕ). anyBelow k asked) (left-length s ok n at few begins ∙ sym many)
+      ∙ anyBelow-same p asked (EntryAsk s a v at j) same
+    where
+      asked : ℕ → Bool
+      asked i = setTest sameRole (tableOf s) (fillerTest sameRole (tableOf s) a (tableOf s .variables)) (entrySet (tableOf s) a (getD (lineAt (tableOf s .lines) n .left) i (constant 0))) j
+      same : (i : ℕ) → i < p → asked i ≡ EntryAsk s a v at j i
+      same i h =
+          ap₂ (λ (k : ℕ) x. setTest sameRole (tableOf s) (fillerTest sameRole (tableOf s) a k) (entrySet (tableOf s) a x) j)
+          (layout s ok .variables ∙ sym w) (sym (left-from s ok n at few begins i (omega arith)))
+
+-- what is asked of atom j: is it in the right entry's set R, then some left entry lies below it
+unfoldable pub LineAsk : List ℕ → Assignment → ℕ → ℕ → ℕ → Bool
+LineAsk s a n R j = not (bit j R) || leftTest sameRole (tableOf s) a (lineAt (tableOf s .lines) n .left) j
+
+module _ (s : List ℕ) (a : Assignment) (n R j : ℕ) where
+  pub line-off : bit j R ≡ false → LineAsk s a n R j ≡ true
+  unfolding LineAsk
+  line-off e = rw e
+
+  pub line-true : leftTest sameRole (tableOf s) a (lineAt (tableOf s .lines) n .left) j ≡ true → LineAsk s a n R j ≡ true
+  unfolding LineAsk
+  line-true e = rw e (or-yes (not (bit j R)))
+
+  pub line-false : bit j R ≡ true → leftTest sameRole (tableOf s) a (lineAt (tableOf s .lines) n .left) j ≡ false → LineAsk s a n R j ≡ false
+  unfolding LineAsk
+  line-false e f = rw (e, f)
+
+  pub line-rest : (m : ℕ) → allBelow j (LineAsk s a n R) ≡ true → R / 2 ^ j ≡ 0 → allBelow m (LineAsk s a n R) ≡ true
+  unfolding LineAsk
+  line-rest m before z = allBelow-every m (LineAsk s a n R) (λ i h. go i (decLt i j))
+    where
+      go : (i : ℕ) → Dec (i < j) → LineAsk s a n R i ≡ true
+      go i (yes l) = allBelow-true-at j i (LineAsk s a n R) before l
+      go i (no l) = rw (rest-none R j i z (omega arith))
+
+line-declared : (t : Table) → T (declared t) → (n : ℕ) → n < length (t .lines) → T (lineDeclared t (lineAt (t .lines) n))
+unfolding declared lineAt
+line-declared t u n h = everyOf-at (lineDeclared t) (t .lines) n (record { left = []; right = constant 0 }) (and-right (everyOf (rowDeclared t) (t .rows)) (everyOf (lineDeclared t) (t .lines)) u) h
+
+pub line-atoms : (s : List ℕ) (a : Assignment) (c e : ℕ) → Given s a c e → T (acyclic (tableOf s) a)
+    → (n at : ℕ) → n < byteAt s 9 → at ≡ lineStart s n → (p : ℕ) → p ≡ byteAt s at → (R : ℕ) → R ≡ entrySet (tableOf s) a (entryFrom (byteAt s (at + 1 + p)))
+    → holds sameRole (tableOf s .rows) (induced (tableOf s) a) (lineAt (tableOf s .lines) n) ≡ allBelow (c + e) (LineAsk s a n R)
+unfolding LineAsk
+line-atoms s a c e g calm n at few begins p many R set =
+    sym (line-rule sameRole (tableOf s) (l .all-declared) a calm (lineAt (tableOf s .lines) n) (line-declared (tableOf s) (l .all-declared) n (subst (λ (k : ℕ). n < k) (sym (l .lines)) few)))
+    ∙ opened (lineAt (tableOf s .lines) n)
+    ∙ ap₂ (λ (k S : ℕ). allBelow k (λ j. not (bit j S) || leftTest sameRole (tableOf s) a (lineAt (tableOf s .lines) n .left) j)) (atom-count s a c e g) (sym right)
+  where
+    l : Layout s (tableOf s)
+    l = layout s (g .readable)
+    opened : (x : Line) → lineTest sameRole (tableOf s) a x ≡ allBelow (atoms (tableOf s)) (λ j. not (bit j (entrySet (tableOf s) a (x .right))) || leftTest sameRole (tableOf s) a (x .left) j)
+    opened x = unfold lineTest in refl
+    right : R ≡ entrySet (tableOf s) a (lineAt (tableOf s .lines) n .right)
+    right = set ∙ ap (entrySet (tableOf s) a) (ap (λ (k : ℕ). entryFrom (byteAt s (at + 1 + k))) many ∙ right-from s (g .readable) n at few begins)

@@ -142,3 +142,43 @@ fn filler_below(table: &[u8], set: &[u32], c: usize, e: usize, f: u8, g: u8, dep
     }
     true
 }
+
+// Some left entry of line n, which begins at the byte `at`, lies below atom j.
+fn left_below(table: &[u8], set: &[u32], c: usize, e: usize, v: usize, n: usize, at: usize, j: usize) -> bool
+    requires { ⌜ Given (now table) (now set) c e × (v ≡ byteAt (now table) 7) × (n < byteAt (now table) 9) × (at ≡ lineStart (now table) n) × (j < c + e) ⌝ }
+    ensures { λ r. ⌜ r ≡ leftTest sameRole (tableOf (now (table .entry))) (now (set .entry)) (lineAt (tableOf (now (table .entry)) .lines) n .left) j ⌝ }
+{
+    let p = wide(table[at]);
+    let mut i = 0;
+    while i < p {
+        let s = entry_set(table, set, c, e, table[at + 1 + i]);
+        if set_below(table, set, c, e, s, j, v) {
+            return true;
+        }
+        i += 1;
+    }
+    false
+}
+
+// Line n, which begins at the byte `at`, holds under the substitution that the sets induce.
+pub fn line_holds(table: &[u8], set: &[u32], c: usize, e: usize, v: usize, n: usize, at: usize) -> bool
+    requires { ⌜ T (isReadable (reading (now table))) × (length (now set) ≡ maxVariables) × (c ≡ byteAt (now table) 5) × (e ≡ byteAt (now table) 8) × (v ≡ byteAt (now table) 7) × (n < byteAt (now table) 9) × (at ≡ lineStart (now table) n) × T (acyclic (tableOf (now table)) (now set)) ⌝ }
+    ensures { λ r. ⌜ r ≡ holds sameRole (tableOf (now (table .entry)) .rows) (induced (tableOf (now (table .entry))) (now (set .entry))) (lineAt (tableOf (now (table .entry)) .lines) n) ⌝ }
+{
+    let p = wide(table[at]);
+    let right = entry_set(table, set, c, e, table[at + 1 + p]);
+    let mut j = 0;
+    while j < c + e {
+        let rest = right >> j;
+        if rest == 0 {
+            return true;
+        }
+        if rest % 2 == 1 {
+            if !left_below(table, set, c, e, v, n, at, j) {
+                return false;
+            }
+        }
+        j += 1;
+    }
+    true
+}

@@ -10,7 +10,7 @@
 --   RowAsk, AtomAsk                     == what is asked of each row, of each atom of the right set
 --   set-constant, set-rows              == a conjunction below a constant, and below a restriction
 --   filler-flat, filler-atoms           == a filler below a filler
---   given                               == what the two questions are given
+--   few-atoms, given                    == what the two questions are given
 --   line-inside, left-.., right-..      == what the bytes of a line say
 --   EntryAsk, LineAsk                   == what is asked of each left entry, of each atom of the right entry
 --   left-entries                        == some left entry lies below an atom
@@ -385,13 +385,16 @@ filler-atoms s a c e q (suc d) f g L R n l r =
 ----------------------------------------------------------------------------------------------------
 -- A line
 
+pub few-atoms : (s : List ℕ) (c e : ℕ) → T (isReadable (reading s)) → c ≡ byteAt s 5 → e ≡ byteAt s 8 → c + e ≤ 24
+few-atoms s c e ok p q = let h : byteAt s 5 + byteAt s 8 ≤ 24 = layout s ok .few-atoms in omega arith
+
 pub given : (s : List ℕ) (a : Assignment) (c e : ℕ) → T (isReadable (reading s)) → length a ≡ 12 → c ≡ byteAt s 5 → e ≡ byteAt s 8 → Given s a c e
 given s a c e ok m p q =
     record {
       readable = ok;
       constants = p;
       restrictions = q;
-      few-atoms = let h : byteAt s 5 + byteAt s 8 ≤ 24 = layout s ok .few-atoms in omega arith;
+      few-atoms = few-atoms s c e ok p q;
       rows-in = inside e q;
       sets = m
     }

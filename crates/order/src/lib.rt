@@ -6,16 +6,14 @@
 use table::Kind;
 ghost use mathlib.Core.Path.{_≡_};
 ghost use Prim.Native.Nat.{_+_, _<_};
-ghost use lib.Dec.{T};
-ghost use lib.ListN.{length};
 ghost use Rattle.el.specs.Description.{sameRole};
 ghost use Rattle.el.specs.Test.{bit};
-ghost use Rattle.el.specs.Assignment.{acyclic, induced};
+ghost use Rattle.el.specs.Assignment.{induced};
 ghost use Rattle.el.specs.Meaning.{holds};
-ghost use Rattle.table.specs.Reading.{byteAt, reading, isReadable, tableOf, maxVariables};
+ghost use Rattle.table.specs.Reading.{byteAt, tableOf};
 ghost use Rattle.table.specs.Layout.{lineAt, lineStart};
 ghost use Rattle.order.specs.Rule.{isConstant, flatTest, fillerSet, entrySet, leftTest};
-ghost use Rattle.order.specs.Given.{fillerFrom, entryFrom, IsFiller, IsEntry, Given, setBelow, fillerBelow};
+ghost use Rattle.order.specs.Given.{fillerFrom, entryFrom, IsFiller, IsEntry, Given, LineGiven, setBelow, fillerBelow};
 
 // Where the restriction rows begin.
 const ROWS: usize = 10;
@@ -162,7 +160,7 @@ fn left_below(table: &[u8], set: &[u32], c: usize, e: usize, v: usize, n: usize,
 
 // Line n, which begins at the byte `at`, holds under the substitution that the sets induce.
 pub fn line_holds(table: &[u8], set: &[u32], c: usize, e: usize, v: usize, n: usize, at: usize) -> bool
-    requires { ⌜ T (isReadable (reading (now table))) × (length (now set) ≡ maxVariables) × (c ≡ byteAt (now table) 5) × (e ≡ byteAt (now table) 8) × (v ≡ byteAt (now table) 7) × (n < byteAt (now table) 9) × (at ≡ lineStart (now table) n) × T (acyclic (tableOf (now table)) (now set)) ⌝ }
+    requires { ⌜ LineGiven (now table) (now set) c e v n at ⌝ }
     ensures { λ r. ⌜ r ≡ holds sameRole (tableOf (now (table .entry)) .rows) (induced (tableOf (now (table .entry))) (now (set .entry))) (lineAt (tableOf (now (table .entry)) .lines) n) ⌝ }
 {
     let p = wide(table[at]);

@@ -1,12 +1,13 @@
 -- The conjuncts of a description, its depth, and Corollary 1 of 004 as a statement about them.
 --
---   Among x l             == x is among the elements of l
---   names C               == the names among C's conjuncts
---   Restriction           == a restriction: its role and its filler
---   restrictions C        == the restrictions among C's conjuncts
---   Serves under s p C    == among C's conjuncts is a restriction whose role lies under s and whose filler passes p
---   Corollary-1 under C D == what Corollary 1 asks of C and D for C to be below D
---   depth C               == how many restrictions of C stand inside each other
+--   Among x l               == x is among the elements of l
+--   names C                 == the names among C's conjuncts
+--   Restriction             == a restriction: its role and its filler
+--   restrictions C          == the restrictions among C's conjuncts
+--   Serves under s P C      == among C's conjuncts is a restriction whose role lies under s and whose filler has P
+--   Corollary-1 under R C D == what Corollary 1 asks of C and D for C to be below D, where R says when a filler is below another
+--   Below under C D         == C is below D, as it is computed
+--   depth C                 == how many restrictions of C stand inside each other
 use mathlib.Core.Path.{_≡_}
 use mathlib.Core.Bool.{Bool}
 use mathlib.Core.Logic.{_⊎_}
@@ -37,15 +38,19 @@ restrictions (meet C D) = restrictions C ++ restrictions D
 restrictions (some r C) = record { role = r; filler = C } ∷ []
 
 -- "C has a restriction with the same role s whose filler is ..": where roles are compared by `under`
-unfoldable pub Serves : (ℕ → ℕ → Bool) → ℕ → (Description → Bool) → Description → Type 0
-Serves under s p C = (q : Restriction) × Among q (restrictions C) × T (under (q .role) s) × T (p (q .filler))
+unfoldable pub Serves : (ℕ → ℕ → Bool) → ℕ → (Description → Type 0) → Description → Type 0
+Serves under s P C = (q : Restriction) × Among q (restrictions C) × T (under (q .role) s) × P (q .filler)
 
 -- "every constant among D's conjuncts is among C's, and for each restriction of D, role s and filler D', C has a
--- restriction with the same role s whose filler is below D' (004, Corollary 1)"
-unfoldable pub Corollary-1 : (ℕ → ℕ → Bool) → Description → Description → Type 0
-Corollary-1 under C D =
+-- restriction with the same role s whose filler is below D' (004, Corollary 1)": where fillers are compared by R
+unfoldable pub Corollary-1 : (ℕ → ℕ → Bool) → (Description → Description → Type 0) → Description → Description → Type 0
+Corollary-1 under R C D =
     ((a : ℕ) → Among a (names D) → Among a (names C))
-    × ((q : Restriction) → Among q (restrictions D) → Serves under (q .role) (λ E. below under E (q .filler)) C)
+    × ((q : Restriction) → Among q (restrictions D) → Serves under (q .role) (λ E. R E (q .filler)) C)
+
+-- the computed order as a statement
+abbrev pub Below : (ℕ → ℕ → Bool) → Description → Description → Type 0
+Below under C D = T (below under C D)
 
 abbrev pub depth : Description → ℕ
 depth top = 0

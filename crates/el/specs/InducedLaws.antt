@@ -4,7 +4,10 @@
 --   conjoin-name        == which names a conjunction has
 --   conjoin-some        == which restrictions a conjunction has
 --   conjoin-same        == members that agree
+--   conjoin-member      == a conjunction lies below each of its members
+--   conjoin-greatest    == what lies below each member lies below the conjunction
 --   conjoin-none        == the empty conjunction is top
+--   atomUnder-constant, atomUnder-row    == the atoms by their numbers
 --   fillerUnder-same    == substitutions that agree on a filler's variable
 --   setUnder-same       == substitutions that agree on what the variable of the set depends on
 --   setUnder-empty      == "the empty set becomes top"
@@ -18,22 +21,21 @@
 --   induced-same        == assignments that give the same sets
 use mathlib.Core.Path.{_≡_, refl, sym, ap, ap₂, subst, _∙_}
 use mathlib.Core.Bool.{Bool, true, false, _&&_, _||_, not}
-use mathlib.Core.Logic.{_⊎_, inl, inr}
-use mathlib.Core.List.{List, [], _∷_}
 use Prim.Native.Nat.{ℕ, zero, suc, _+_, _-_, _≤_, _<_}
 use native.Mathlib.Omega.{arith}
 use native.Mathlib.Nat.{not-suc-le-zero}
 use native.Mathlib.Decide.{ℕ-discrete, decLt}
-use borrow.Author.Tests.{ltb-false}
-use lib.Dec.{T, eqb, ltb, eqb-refl, T-not}
+use borrow.Author.Tests.{ltb-false, lt-ltb, le-ltb}
+use lib.Dec.{T, ltb, eqb-refl, T-not}
 use lib.ListN.{length, List·getD-eq-default}
 use Rattle.el.specs.Test.{anyBelow, allBelow, bit}
-use Rattle.el.specs.TestLaws.{is-true, is-false, true-is, false-not, and-make, anyBelow-hit, allBelow-at, bit-none}
+use Rattle.el.specs.TestLaws.{is-true, is-false, true-is, false-not, and-make, anyBelow-hit, allBelow-all, allBelow-at, bit-none}
 use Rattle.el.specs.Description.{Description, top, name, meet, some, hasName, hasSome, below}
-use Rattle.el.specs.Table.{Filler, topF, constantF, variableF, Row, Table, rowAt, atoms, declared}
+use Rattle.el.specs.Table.{Filler, topF, constantF, variableF, Table, rowAt, atoms, declared}
 use Rattle.el.specs.Meaning.{Substitution, fillerUnder, rowUnder}
 use Rattle.el.specs.Assignment.{Assignment, setOf, isVariable, depends, Reaches, once, then, reaches, acyclic, atomUnder, conjoin, setUnder, inducedTo, induced}
 use Rattle.el.specs.ReachLaws.{depends-declared, depends-reaches, reaches-trans}
+use Rattle.el.specs.OrderLaws.{below-left, below-right, below-refl}
 use Rattle.el.specs.Rank.{one, countBelow, rank}
 
 ----------------------------------------------------------------------------------------------------
@@ -78,6 +80,27 @@ module _ (under : ℕ → ℕ → Bool) where
       go true e = ap (λ b. b || hasSome under s q (d n)) e
       go false e = e ∙ or-no (anyBelow n (λ i. p i && hasSome under s q (d i)))
 
+  pub conjoin-greatest : (C : Description) (n : ℕ) (p : ℕ → Bool) (d : ℕ → Description) → ((i : ℕ) → i < n → T (p i) → T (below under C (d i))) → T (below under C (conjoin n p d))
+  conjoin-greatest C n p d f =
+      true-is (below under C (conjoin n p d))
+      (conjoin-below C n p d ∙ is-true (allBelow n (λ i. not (p i) || below under C (d i))) (allBelow-all n (λ i. not (p i) || below under C (d i)) (λ i h. imply (p i) (below under C (d i)) (f i h))))
+    where
+      imply : (a b : Bool) → (T a → T b) → T (not a || b)
+      imply true b g = g tt
+      imply false b g = tt
+
+  module _ (under-refl : (r : ℕ) → T (under r r)) where
+    pub conjoin-member : (n i : ℕ) (p : ℕ → Bool) (d : ℕ → Description) → i < n → T (p i) → T (below under (conjoin n p d) (d i))
+    unfolding conjoin
+    conjoin-member zero i p d h u = absurd (not-suc-le-zero h)
+    conjoin-member (suc n) i p d h u = go (p n) refl (ℕ-discrete i n) (λ l. conjoin-member n i p d l u)
+      where
+        go : (b : Bool) → p n ≡ b → Dec (i ≡ n) → (i < n → T (below under (conjoin n p d) (d i))) → T (below under (elim b [ true ↦ meet (conjoin n p d) (d n) | false ↦ conjoin n p d ]) (d i))
+        go true q (yes e) rest = below-right under (conjoin n p d) (d n) (d i) (subst (λ (k : ℕ). T (below under (d k) (d i))) e (below-refl under under-refl (d i)))
+        go true q (no e) rest = below-left under (conjoin n p d) (d n) (d i) (rest (omega arith))
+        go false q (yes e) rest = absurd (false-not (p n) q (subst (λ (k : ℕ). T (p k)) e u))
+        go false q (no e) rest = rest (omega arith)
+
 pub conjoin-same : (n : ℕ) (p q : ℕ → Bool) (d e : ℕ → Description) → ((i : ℕ) → i < n → p i ≡ q i) → ((i : ℕ) → i < n → T (p i) → d i ≡ e i) → conjoin n p d ≡ conjoin n q e
 unfolding conjoin
 conjoin-same zero p q d e f g = refl
@@ -101,6 +124,16 @@ conjoin-none (suc n) p d f = go (p n) (f n (omega arith)) (conjoin-none n p d (�
 
 ----------------------------------------------------------------------------------------------------
 -- Sets under a substitution
+
+pub atomUnder-constant : (t : Table) (σ : Substitution) (i : ℕ) → i < t .constants → atomUnder t σ i ≡ name i
+unfolding atomUnder
+atomUnder-constant t σ i h = rw (lt-ltb i (t .constants) h, atomUnder)
+
+pub atomUnder-row : (t : Table) (σ : Substitution) (k : ℕ) → atomUnder t σ (t .constants + k) ≡ rowUnder σ (rowAt (t .rows) k)
+unfolding atomUnder
+atomUnder-row t σ k =
+    let e : t .constants + k - t .constants ≡ k = omega arith in
+    rw (le-ltb (t .constants + k) (t .constants) (omega arith), atomUnder) (ap (λ (n : ℕ). rowUnder σ (rowAt (t .rows) n)) e)
 
 pub fillerUnder-same : (σ τ : Substitution) (f : Filler) → ((y : ℕ) → T (isVariable y f) → σ y ≡ τ y) → fillerUnder σ f ≡ fillerUnder τ f
 fillerUnder-same σ τ topF g = refl

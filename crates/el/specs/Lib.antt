@@ -16,3 +16,10 @@ pub mod NodeLaws
 pub mod OutcomeLaws
 pub mod Rank
 pub mod InducedLaws
+pub mod Locality
+pub mod LocalityLaws
+pub mod Counting
+pub mod CountingLaws
+pub mod GrowthLaws
+pub mod Examples
+pub mod Instances

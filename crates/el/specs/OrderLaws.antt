@@ -3,23 +3,23 @@
 --   among-left, among-right, among-cases    == what is among two lists one after the other
 --   A ↔ B                                   == A gives B, and B gives A
 --   hasName-means, hasSome-means            == the two questions of the order, by the lists of conjuncts
---   corollary-1                             == the computed order is Corollary 1 of 004
+--   corollary-1, corollary-1-only           == the computed order is what Corollary 1 of 004 says, and nothing else is
 --   below-left, below-right                 == one conjunct below is enough
 --   hasSome-map                             == the second question along an implication
 --   below-refl, below-trans                 == the order is reflexive and transitive, where the roles' is
 --   below-depth                             == what lies below is at least as deep
 --   sameRole-refl, sameRole-trans           == equality of roles is such a relation
 --   joining-is-wrong                        == two restrictions with one role are not one restriction on the joined fillers
-use mathlib.Core.Path.{_≡_, refl, sym, ap, subst, _∙_}
-use mathlib.Core.Bool.{Bool, true, false, _&&_, _||_}
+use mathlib.Core.Path.{_≡_, refl, sym, ap, subst}
+use mathlib.Core.Bool.{Bool, true, false, _&&_}
 use mathlib.Core.Logic.{_⊎_, inl, inr, _↔_}
 use mathlib.Core.List.{List, [], _∷_, _++_}
-use Prim.Native.Nat.{ℕ, zero, suc, _≤_, _<_, max}
+use Prim.Native.Nat.{ℕ, _≤_, _<_}
 use native.Mathlib.Omega.{arith}
 use lib.Dec.{T, eqb, eqb→eq, eqb-refl}
 use Rattle.el.specs.TestLaws.{or-left, or-right, or-cases, and-make, and-left, and-right}
 use Rattle.el.specs.Description.{Description, top, name, meet, some, sameRole, hasName, hasSome, below}
-use Rattle.el.specs.Conjuncts.{Among, names, Restriction, restrictions, Serves, Corollary-1, depth}
+use Rattle.el.specs.Conjuncts.{Among, names, Restriction, restrictions, Serves, Corollary-1, Below, depth}
 
 module _ {A : Type 0} (x : A) where
   pub among-left : (l m : List A) → Among x l → Among x (l ++ m)
@@ -56,23 +56,23 @@ hasName-means a (meet C D) = go (hasName-means a C) (hasName-means a D)
 hasName-means a (some r C) = ((λ t. t), λ t. t)
 
 module _ (under : ℕ → ℕ → Bool) where
-  pub hasSome-means : (s : ℕ) (p : Description → Bool) (C : Description) → T (hasSome under s p C) ↔ Serves under s p C
+  pub hasSome-means : (s : ℕ) (p : Description → Bool) (C : Description) → T (hasSome under s p C) ↔ Serves under s (λ E. T (p E)) C
   unfolding Serves
   hasSome-means s p top = ((λ t. absurd t), λ q. q .1)
   hasSome-means s p (name b) = ((λ t. absurd t), λ q. q .1)
   hasSome-means s p (meet C D) = go (hasSome-means s p C) (hasSome-means s p D)
     where
-      go : (T (hasSome under s p C) ↔ Serves under s p C) → (T (hasSome under s p D) ↔ Serves under s p D) → T (hasSome under s p (meet C D)) ↔ Serves under s p (meet C D)
+      go : (T (hasSome under s p C) ↔ Serves under s (λ E. T (p E)) C) → (T (hasSome under s p D) ↔ Serves under s (λ E. T (p E)) D) → T (hasSome under s p (meet C D)) ↔ Serves under s (λ E. T (p E)) (meet C D)
       go f g = (there, back)
         where
-          there : T (hasSome under s p (meet C D)) → Serves under s p (meet C D)
+          there : T (hasSome under s p (meet C D)) → Serves under s (λ E. T (p E)) (meet C D)
           there t =
               elim (or-cases (hasSome under s p C) (hasSome under s p D) t) [
                 | inl u ↦ let q = f .0 u in (q .0, among-left (q .0) (restrictions C) (restrictions D) (q .1), q .2, q .3)
                 | inr u ↦ let q = g .0 u in (q .0, among-right (q .0) (restrictions C) (restrictions D) (q .1), q .2, q .3)
               ]
 
-          back : Serves under s p (meet C D) → T (hasSome under s p (meet C D))
+          back : Serves under s (λ E. T (p E)) (meet C D) → T (hasSome under s p (meet C D))
           back q =
               elim (among-cases (q .0) (restrictions C) (restrictions D) (q .1)) [
                 | inl u ↦ or-left (hasSome under s p C) (hasSome under s p D) (f .1 (q .0, u, q .2, q .3))
@@ -89,7 +89,7 @@ module _ (under : ℕ → ℕ → Bool) where
       back q (inr h) u w = absurd h
 
   -- "C is below D when ..": the computed order says exactly this
-  pub corollary-1 : (C D : Description) → T (below under C D) ↔ Corollary-1 under C D
+  pub corollary-1 : (C D : Description) → T (below under C D) ↔ Corollary-1 under (Below under) C D
   unfolding Corollary-1 Serves
   corollary-1 C top = ((λ t. ((λ a m. absurd m), λ q m. absurd m)), λ c. tt)
   corollary-1 C (name b) = (there, λ c. hasName-means b C .1 (c .0 b (inl refl)))
@@ -98,14 +98,14 @@ module _ (under : ℕ → ℕ → Bool) where
       only t a (inl e) = subst (λ (k : ℕ). Among k (names C)) (sym e) (hasName-means b C .0 t)
       only t a (inr h) = absurd h
 
-      there : T (hasName b C) → Corollary-1 under C (name b)
+      there : T (hasName b C) → Corollary-1 under (Below under) C (name b)
       there t = (only t, λ q m. absurd m)
   corollary-1 C (meet D E) = go (corollary-1 C D) (corollary-1 C E)
     where
-      go : (T (below under C D) ↔ Corollary-1 under C D) → (T (below under C E) ↔ Corollary-1 under C E) → T (below under C (meet D E)) ↔ Corollary-1 under C (meet D E)
+      go : (T (below under C D) ↔ Corollary-1 under (Below under) C D) → (T (below under C E) ↔ Corollary-1 under (Below under) C E) → T (below under C (meet D E)) ↔ Corollary-1 under (Below under) C (meet D E)
       go f g = (there, back)
         where
-          there : T (below under C D && below under C E) → Corollary-1 under C (meet D E)
+          there : T (below under C D && below under C E) → Corollary-1 under (Below under) C (meet D E)
           there t =
               let d = f .0 (and-left (below under C D) (below under C E) t) in
               let e = g .0 (and-right (below under C D) (below under C E) t) in (
@@ -113,7 +113,7 @@ module _ (under : ℕ → ℕ → Bool) where
                 λ q m. elim (among-cases q (restrictions D) (restrictions E) m) [ inl u ↦ d .1 q u | inr u ↦ e .1 q u ],
               )
 
-          back : Corollary-1 under C (meet D E) → T (below under C D && below under C E)
+          back : Corollary-1 under (Below under) C (meet D E) → T (below under C D && below under C E)
           back c =
               and-make (below under C D) (below under C E)
               (f .1 ((λ a m. c .0 a (among-left a (names D) (names E) m)), λ q m. c .1 q (among-left q (restrictions D) (restrictions E) m)))
@@ -122,11 +122,59 @@ module _ (under : ℕ → ℕ → Bool) where
       ((λ t. ((λ a m. absurd m), only t)), λ c. hasSome-means s (λ E. below under E D) C .1 (c .1 (record { role = s; filler = D }) (inl refl)))
     where
       only : T (hasSome under s (λ E. below under E D) C) → (q : Restriction) → Among q (record { role = s; filler = D } ∷ []) →
-          Serves under (q .role) (λ E. below under E (q .filler)) C
+          Serves under (q .role) (λ E. T (below under E (q .filler))) C
       only t q (inl e) =
-          subst (λ (q : Restriction). Serves under (q .role) (λ E. below under E (q .filler)) C) (sym e)
+          subst (λ (q : Restriction). Serves under (q .role) (λ E. T (below under E (q .filler))) C) (sym e)
           (hasSome-means s (λ E. below under E D) C .0 t)
       only t q (inr h) = absurd h
+
+  -- and no other relation does
+  pub corollary-1-only : (R : Description → Description → Type 0) → ((C D : Description) → R C D ↔ Corollary-1 under R C D) → (C D : Description) → R C D ↔ T (below under C D)
+  unfolding Corollary-1 Serves
+  corollary-1-only R f C top = ((λ r. tt), λ t. f C top .1 ((λ a m. absurd m), λ q m. absurd m))
+  corollary-1-only R f C (name b) = ((λ r. hasName-means b C .1 (f C (name b) .0 r .0 b (inl refl))), λ t. f C (name b) .1 (only t, λ q m. absurd m))
+    where
+      only : T (hasName b C) → (a : ℕ) → Among a (b ∷ []) → Among a (names C)
+      only t a (inl e) = subst (λ (k : ℕ). Among k (names C)) (sym e) (hasName-means b C .0 t)
+      only t a (inr h) = absurd h
+  corollary-1-only R f C (meet D E) = go (corollary-1-only R f C D) (corollary-1-only R f C E)
+    where
+      go : (R C D ↔ T (below under C D)) → (R C E ↔ T (below under C E)) → R C (meet D E) ↔ T (below under C (meet D E))
+      go g h = (there, back)
+        where
+          there : R C (meet D E) → T (below under C D && below under C E)
+          there r =
+              let c = f C (meet D E) .0 r in
+              and-make (below under C D) (below under C E)
+              (g .0 (f C D .1 ((λ a m. c .0 a (among-left a (names D) (names E) m)), λ q m. c .1 q (among-left q (restrictions D) (restrictions E) m))))
+              (h .0 (f C E .1 ((λ a m. c .0 a (among-right a (names D) (names E) m)), λ q m. c .1 q (among-right q (restrictions D) (restrictions E) m))))
+
+          back : T (below under C D && below under C E) → R C (meet D E)
+          back t =
+              let d = f C D .0 (g .1 (and-left (below under C D) (below under C E) t)) in
+              let e = f C E .0 (h .1 (and-right (below under C D) (below under C E) t)) in
+              f C (meet D E) .1 (
+                (λ a m. elim (among-cases a (names D) (names E) m) [ inl u ↦ d .0 a u | inr u ↦ e .0 a u ]),
+                λ q m. elim (among-cases q (restrictions D) (restrictions E) m) [ inl u ↦ d .1 q u | inr u ↦ e .1 q u ],
+              )
+  corollary-1-only R f C (some s D) = go (λ E. corollary-1-only R f E D)
+    where
+      go : ((E : Description) → R E D ↔ T (below under E D)) → R C (some s D) ↔ T (below under C (some s D))
+      go g = (there, back)
+        where
+          there : R C (some s D) → T (below under C (some s D))
+          there r =
+              let q = f C (some s D) .0 r .1 (record { role = s; filler = D }) (inl refl) in
+              hasSome-means s (λ E. below under E D) C .1 (q .0, q .1, q .2, g (q .0 .filler) .0 (q .3))
+
+          only : T (below under C (some s D)) → (q : Restriction) → Among q (record { role = s; filler = D } ∷ []) → Serves under (q .role) (λ E. R E (q .filler)) C
+          only t q (inl e) =
+              let p = hasSome-means s (λ E. below under E D) C .0 t in
+              subst (λ (q : Restriction). Serves under (q .role) (λ E. R E (q .filler)) C) (sym e) (p .0, p .1, p .2, g (p .0 .filler) .1 (p .3))
+          only t q (inr h) = absurd h
+
+          back : T (below under C (some s D)) → R C (some s D)
+          back t = f C (some s D) .1 ((λ a m. absurd m), only t)
 
   ----------------------------------------------------------------------------------------------------
   -- Conjunctions

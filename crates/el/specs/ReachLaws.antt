@@ -14,19 +14,18 @@
 --   reaches-trans       == what is reached from what is reached
 --   acyclic-means       == the test `acyclic` says: no variable depends on itself over one or more steps
 --   depends-same, reaches-same, acyclic-same    == assignments that give the same sets
-use mathlib.Core.Path.{_≡_, refl, sym, ap, ap₂, subst, _∙_}
-use mathlib.Core.Bool.{Bool, true, false, _&&_, _||_, not}
+use mathlib.Core.Path.{_≡_, ap, ap₂, subst}
+use mathlib.Core.Bool.{Bool, _&&_, _||_, not}
 use mathlib.Core.Logic.{_⊎_, inl, inr, _↔_}
-use mathlib.Core.List.{List, [], _∷_}
-use Prim.Native.Nat.{ℕ, zero, suc, _+_, _≤_, _<_}
+use Prim.Native.Nat.{ℕ, zero, suc, _+_, _<_}
 use native.Mathlib.Omega.{arith}
 use native.Mathlib.Nat.{not-suc-le-zero}
 use native.Mathlib.Decide.{ℕ-discrete}
-use lib.Dec.{T, eqb, ltb, eqb→eq, ltb→lt, T-not, not-T}
+use lib.Dec.{T, ltb, eqb→eq, ltb→lt, T-not, not-T}
 use lib.ListN.{length}
-use Rattle.el.specs.Test.{anyBelow, allBelow, everyOf, bit}
-use Rattle.el.specs.TestLaws.{or-left, or-right, or-cases, and-make, and-left, and-right, anyBelow-found, anyBelow-same, allBelow-all, allBelow-at, allBelow-same, everyOf-at}
-use Rattle.el.specs.Table.{Filler, topF, constantF, variableF, Row, Line, Table, rowAt, fillerDeclared, rowDeclared, lineDeclared, declared}
+use Rattle.el.specs.Test.{anyBelow, everyOf, bit}
+use Rattle.el.specs.TestLaws.{or-left, or-right, or-cases, and-make, and-left, and-right, anyBelow-found, allBelow-all, allBelow-at, allBelow-same, everyOf-at}
+use Rattle.el.specs.Table.{Filler, topF, constantF, variableF, Table, rowAt, fillerDeclared, rowDeclared, lineDeclared, declared}
 use Rattle.el.specs.Assignment.{Assignment, setOf, isVariable, depends, Reaches, once, then, Acyclic, path, reaches, acyclic}
 
 ----------------------------------------------------------------------------------------------------

@@ -198,8 +198,11 @@ module _ (s : List ℕ) (a : Assignment) (c e : ℕ) (g : Given s a c e) where
   unfolding IsFiller
   row-filler k h = layout s (g .readable) .row-filler k (row-in k h) ∙ ap some (sym (row-code k h))
 
-  pub row-filler-next : (k : ℕ) → k < e → IsFiller s (byteAt s (10 + 2 * k + 1))
-  row-filler-next k h = let q : 11 + 2 * k ≡ 10 + 2 * k + 1 = omega arith in subst (λ (n : ℕ). IsFiller s (byteAt s n)) q (row-filler k h)
+  pub atom-filler-code : (j : ℕ) → c ≤ j → j < c + e → IsFiller s (byteAt s (10 + 2 * (j - c) + 1))
+  atom-filler-code j h l = subst (λ (n : ℕ). IsFiller s (byteAt s n)) (next (j - c)) (row-filler (j - c) (omega arith))
+    where
+      next : (k : ℕ) → 11 + 2 * k ≡ 10 + 2 * k + 1
+      next k = omega arith
 
   -- the row of atom i, which is restriction i - c
   atom-role : (i : ℕ) → c ≤ i → i < c + e → atomRow (tableOf s) i .role ≡ byteAt s (10 + 2 * (i - c))

@@ -7,7 +7,7 @@ use borrow.Author.Needs.{needs}
 use borrow.Author.Tests.{not-true, not-false}
 use Rattle.el.specs.Test.{anyBelow, allBelow}
 use Rattle.el.specs.TestLaws.{anyBelow-step, anyBelow-true-at, allBelow-step, allBelow-false-at}
-use Rattle.order.proofs.Laws.{bit-on, bit-off, any-start, any-end, all-start, all-end, row-filler, row-filler-next, RowAsk, row-off, row-other, row-false, row-true, rows-rest, set-constant, set-rows, AtomAsk, atom-off, atom-true, atom-false, atoms-rest, filler-flat, filler-atoms}
+use Rattle.order.proofs.Laws.{bit-on, bit-off, any-start, any-end, all-start, all-end, row-filler, atom-filler-code, RowAsk, row-off, row-other, row-false, row-true, rows-rest, set-constant, set-rows, AtomAsk, atom-off, atom-true, atom-false, atoms-rest, filler-flat, filler-atoms}
 use Prim.Native.Nat.{ℕ, _<_}
 use borrow.Fn.Kinds.{In}
 use borrow.Fn.PlainCycle.{Measures, is, falls, and}
@@ -419,7 +419,9 @@ set-below-filler-below-requires : (t : ℕ) → set-below-lts.Need-filler-below-
   filler-below.Post,
 ) (set-below-at t) set-below.Post set-below-Inv-loop set-below-μ-loop
 set-below-filler-below-requires t c κs =
-    (omega arith, (c .before .before .before .before .before .before .before .before .before .before .before .before .pre .1 .0, row-filler _ _ _ _ (c .before .before .before .before .before .before .before .before .before .before .before .before .pre .1 .0) _ (c .before .before .before .before .before .loop-test .taken), row-filler-next _ _ _ _ (c .before .before .before .before .before .before .before .before .before .before .before .before .pre .1 .0) _ (omega arith)))
+    let own = row-filler _ _ _ _ (c .before .before .before .before .before .before .before .before .before .before .before .before .pre .1 .0) _ (c .before .before .before .before .before .loop-test .taken) in
+    let asked = atom-filler-code _ _ _ _ (c .before .before .before .before .before .before .before .before .before .before .before .before .pre .1 .0) _ (c .before .before .before .before .before .before .before .before .before .if1 .left) (c .before .before .before .before .before .before .before .before .before .before .before .before .pre .1 .1) in
+    (omega arith, (c .before .before .before .before .before .before .before .before .before .before .before .before .pre .1 .0, search needs, search needs))
 
 -- src/lib.rt:98:21
 set-below-returns-3 : (t : ℕ) → set-below-lts.Need-returns-3 (

@@ -16,27 +16,26 @@
 --   left-entries                        == some left entry lies below an atom
 --   line-atoms                          == the line holds
 use mathlib.Core.Path.{_≡_, refl, sym, ap, ap₂, subst, _∙_}
-use mathlib.Core.Bool.{Bool, true, false, _&&_, _||_, not, cond}
-use mathlib.Core.Logic.{_⊎_, inl, inr}
-use mathlib.Core.List.{List, [], _∷_}
-use mathlib.Core.Option.{Option, none, some}
+use mathlib.Core.Bool.{Bool, true, false, _&&_, _||_, not}
+use mathlib.Core.List.{List, []}
+use mathlib.Core.Option.{none, some}
 use Prim.Native.Nat.{ℕ, zero, suc, _+_, _-_, _*_, _/_, _%_, _^_, _≤_, _<_}
 use native.Mathlib.Omega.{arith}
 use native.Mathlib.Nat.{one-mul, mod-eq-of-lt, zero-div}
 use native.Mathlib.Decide.{decLt}
-use lib.Dec.{T, eqb, ltb, ltb→lt}
+use lib.Dec.{T, eqb, ltb}
 use lib.ListN.{length, getD}
 use lib.Pow.{pow-lt, shr-shr}
-use borrow.Author.Tests.{eq-eqb, ne-eqb, lt-ltb, le-ltb, ltb-true, ltb-false}
+use borrow.Author.Tests.{eq-eqb, ne-eqb, lt-ltb, le-ltb}
 use Rattle.el.specs.Description.{sameRole}
 use Rattle.el.specs.Test.{anyBelow, allBelow, anyOf, everyOf, bit}
-use Rattle.el.specs.TestLaws.{and-right, anyOf-hit, anyOf-found, everyOf-at, same-test, is-true, true-is, false-not, anyBelow-hit, anyBelow-found, anyBelow-none, anyBelow-same, anyBelow-false-at, allBelow-same, allBelow-every, allBelow-true-at}
-use Rattle.el.specs.Table.{Filler, topF, constantF, variableF, Entry, constant, restriction, variable, Row, Line, Table, rowAt, atoms, rowDeclared, lineDeclared, declared}
+use Rattle.el.specs.TestLaws.{and-right, anyOf-hit, anyOf-found, everyOf-at, same-test, false-not, anyBelow-hit, anyBelow-found, anyBelow-none, anyBelow-same, anyBelow-false-at, allBelow-every, allBelow-true-at}
+use Rattle.el.specs.Table.{Filler, topF, constantF, variableF, Entry, constant, restriction, variable, Line, Table, rowAt, atoms, rowDeclared, lineDeclared, declared}
 use Rattle.el.specs.Meaning.{holds}
 use Rattle.el.specs.Assignment.{Assignment, setOf, acyclic, induced}
 use Rattle.table.specs.declared.Kind.{Kind}
 use Rattle.table.specs.declared.Kind.the-variants.{Top, Constant, Restriction, Variable, Other}
-use Rattle.table.specs.Code.{kindOf, within, fillerOf, fillerOfKind, entryOf, entryOfKind}
+use Rattle.table.specs.Code.{kindOf, fillerOf, fillerOfKind, entryOf, entryOfKind}
 use Rattle.table.specs.Reading.{byteAt, reading, isReadable, tableOf}
 use Rattle.table.specs.Layout.{lineAt, lineStart, Layout}
 use Rattle.table.specs.LayoutLaws.{within-some, layout}
@@ -245,8 +244,10 @@ any-from c e p low = same-test (anyBelow (c + e) p) (anyBelow e (λ k. p (c + k)
     split i h u (no l) =
         let q : i ≡ c + (i - c) = omega arith in
         anyBelow-hit e (i - c) (λ k. p (c + k)) (omega arith) (subst (λ (m : ℕ). T (p m)) q u)
+
     there : T (anyBelow (c + e) p) → T (anyBelow e (λ k. p (c + k)))
     there u = let r = anyBelow-found (c + e) p u in split (r .0) (r .1) (r .2) (decLt (r .0) c)
+
     back : T (anyBelow e (λ k. p (c + k))) → T (anyBelow (c + e) p)
     back u = let r = anyBelow-found e (λ k. p (c + k)) u in let h : r .0 < e = r .1 in anyBelow-hit (c + e) (c + r .0) p (omega arith) (r .2)
 
@@ -299,10 +300,10 @@ module _ (s : List ℕ) (a : Assignment) (c e : ℕ) (g : Given s a c e) (d S j 
   pub set-constant : j < c → bit j S ≡ setBelow s a d S j
   unfolding setBelow setTest
   set-constant h = sym (
-    ap (λ (n : ℕ). anyBelow n (λ i. bit i S && atomTest sameRole (tableOf s) (fillerTest sameRole (tableOf s) a d) i j)) (atom-count s a c e g)
-    ∙ anyBelow-same (c + e) (λ i. bit i S && atomTest sameRole (tableOf s) (fillerTest sameRole (tableOf s) a d) i j) (λ i. eqb i j && bit i S)
+      ap (λ (n : ℕ). anyBelow n (λ i. bit i S && atomTest sameRole (tableOf s) (fillerTest sameRole (tableOf s) a d) i j)) (atom-count s a c e g)
+      ∙ anyBelow-same (c + e) (λ i. bit i S && atomTest sameRole (tableOf s) (fillerTest sameRole (tableOf s) a d) i j) (λ i. eqb i j && bit i S)
       (λ i l. ap (λ b. bit i S && b) (atom-constant sameRole (tableOf s) (fillerTest sameRole (tableOf s) a d) i j (subst (λ (n : ℕ). j < n) (sym (constant-count s a c e g)) h)) ∙ and-swap (bit i S) (eqb i j))
-    ∙ any-one (λ i. eqb i j) (λ i. bit i S) (c + e) j (omega arith) (λ i. refl))
+      ∙ any-one (λ i. eqb i j) (λ i. bit i S) (c + e) j (omega arith) (λ i. refl))
 
   -- below the restriction j: some row of the set has its role, and a filler below its own
   pub set-rows : c ≤ j → j < c + e → setBelow s a d S j ≡ anyBelow e (RowAsk s a c d S (byteAt s (10 + 2 * (j - c))) (byteAt s (10 + 2 * (j - c) + 1)))
@@ -315,26 +316,33 @@ module _ (s : List ℕ) (a : Assignment) (c e : ℕ) (g : Given s a c e) (d S j 
     where
       fb : Filler → Filler → Bool
       fb = fillerTest sameRole (tableOf s) a d
+
       ask : ℕ → Bool
       ask i = bit i S && atomTest sameRole (tableOf s) (fillerTest sameRole (tableOf s) a d) i j
+
       in-rows : tableOf s .constants ≤ j
       in-rows = subst (λ (n : ℕ). n ≤ j) (sym (constant-count s a c e g)) h
+
       opened : (i : ℕ) → ask i ≡ bit i S && (not (ltb i (tableOf s .constants)) && (sameRole (atomRow (tableOf s) i .role) (atomRow (tableOf s) j .role) && fb (atomRow (tableOf s) i .filler) (atomRow (tableOf s) j .filler)))
       opened i = ap (λ b. bit i S && b) (atom-restriction sameRole (tableOf s) fb i j in-rows)
+
       low : (i : ℕ) → i < c → ask i ≡ false
       low i k = opened i ∙ rw (lt-ltb i (tableOf s .constants) (subst (λ (n : ℕ). i < n) (sym (constant-count s a c e g)) k)) (and-no (bit i S))
+
       next : (k : ℕ) → 11 + 2 * k ≡ 10 + 2 * k + 1
       next k = omega arith
+
       back : (k : ℕ) → c + k - c ≡ k
       back k = omega arith
+
       same : (k : ℕ) → k < e → ask (c + k) ≡ RowAsk s a c d S (byteAt s (10 + 2 * (j - c))) (byteAt s (11 + 2 * (j - c))) k
       same k m =
           opened (c + k)
           ∙ ap (λ b. bit (c + k) S && (not b && (sameRole (atomRow (tableOf s) (c + k) .role) (atomRow (tableOf s) j .role) && fb (atomRow (tableOf s) (c + k) .filler) (atomRow (tableOf s) j .filler))))
-            (le-ltb (c + k) (tableOf s .constants) (subst (λ (n : ℕ). n ≤ c + k) (sym (constant-count s a c e g)) (omega arith)))
+          (le-ltb (c + k) (tableOf s .constants) (subst (λ (n : ℕ). n ≤ c + k) (sym (constant-count s a c e g)) (omega arith)))
           ∙ ap₂ (λ x y. bit (c + k) S && (x && y))
-            (ap₂ sameRole (atom-role s a c e g (c + k) (omega arith) (omega arith) ∙ ap (λ (n : ℕ). byteAt s (10 + 2 * n)) (back k)) (atom-role s a c e g j h l))
-            (ap₂ fb (atom-filler s a c e g (c + k) (omega arith) (omega arith) ∙ ap (λ (n : ℕ). fillerFrom (byteAt s (11 + 2 * n))) (back k)) (atom-filler s a c e g j h l))
+          (ap₂ sameRole (atom-role s a c e g (c + k) (omega arith) (omega arith) ∙ ap (λ (n : ℕ). byteAt s (10 + 2 * n)) (back k)) (atom-role s a c e g j h l))
+          (ap₂ fb (atom-filler s a c e g (c + k) (omega arith) (omega arith) ∙ ap (λ (n : ℕ). fillerFrom (byteAt s (11 + 2 * n))) (back k)) (atom-filler s a c e g j h l))
 
 ----------------------------------------------------------------------------------------------------
 -- A filler below a filler
@@ -399,7 +407,7 @@ given s a c e ok m p q =
       restrictions = q;
       few-atoms = few-atoms s c e ok p q;
       rows-in = inside e q;
-      sets = m
+      sets = m;
     }
   where
     inside : (k : ℕ) → k ≡ byteAt s 8 → 10 + 2 * k ≤ length s
@@ -464,6 +472,7 @@ module _ (s : List ℕ) (a : Assignment) (ok : T (isReadable (reading s))) (n at
     where
       asked : ℕ → Bool
       asked i = setTest sameRole (tableOf s) (fillerTest sameRole (tableOf s) a (tableOf s .variables)) (entrySet (tableOf s) a (getD (lineAt (tableOf s .lines) n .left) i (constant 0))) j
+
       same : (i : ℕ) → i < p → asked i ≡ EntryAsk s a v at j i
       same i h =
           ap₂ (λ (k : ℕ) x. setTest sameRole (tableOf s) (fillerTest sameRole (tableOf s) a k) (entrySet (tableOf s) a x) j)
@@ -509,7 +518,9 @@ line-atoms s a c e g calm n at few begins p many R set =
   where
     l : Layout s (tableOf s)
     l = layout s (g .readable)
+
     opened : (x : Line) → lineTest sameRole (tableOf s) a x ≡ allBelow (atoms (tableOf s)) (λ j. not (bit j (entrySet (tableOf s) a (x .right))) || leftTest sameRole (tableOf s) a (x .left) j)
     opened x = unfold lineTest in refl
+
     right : R ≡ entrySet (tableOf s) a (lineAt (tableOf s .lines) n .right)
     right = set ∙ ap (entrySet (tableOf s) a) (ap (λ (k : ℕ). entryFrom (byteAt s (at + 1 + k))) many ∙ right-from s (g .readable) n at few begins)

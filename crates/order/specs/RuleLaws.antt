@@ -8,24 +8,23 @@
 --   line-rule        == the line test answers whether the induced substitution makes the line true
 use mathlib.Core.Path.{_≡_, refl, sym, ap, ap₂, subst, _∙_}
 use mathlib.Core.Bool.{Bool, true, false, _&&_, _||_, not}
-use mathlib.Core.Logic.{_⊎_, inl, inr}
 use mathlib.Core.List.{List, [], _∷_}
-use Prim.Native.Nat.{ℕ, zero, suc, _+_, _-_, _*_, _/_, _%_, _^_, _≤_, _<_}
+use Prim.Native.Nat.{ℕ, zero, suc, _+_, _-_, _/_, _%_, _^_, _≤_, _<_}
 use native.Mathlib.Omega.{arith}
 use native.Mathlib.Nat.{pow-suc, div-eq-of-lt, div-self, mul-div-cancel}
 use native.Mathlib.Decide.{ℕ-discrete, decLt}
 use lib.Dec.{T, eqb, ltb, eqb→eq, eqb-refl, ltb→lt}
-use lib.ListN.{length, getD}
+use lib.ListN.{length}
 use lib.Pow.{pow-pos, pow-lt, pow-add}
-use borrow.Author.Tests.{eq-eqb, ne-eqb, lt-ltb, le-ltb, ltb-true, ltb-false}
+use borrow.Author.Tests.{eq-eqb, ne-eqb, le-ltb, ltb-true, ltb-false}
 use Rattle.el.specs.Test.{anyBelow, allBelow, anyOf, everyOf, bit}
-use Rattle.el.specs.TestLaws.{is-true, is-false, same-test, true-is, and-make, and-left, and-right, or-cases, or-right, anyBelow-hit, anyBelow-found, anyBelow-none, anyBelow-same, allBelow-at, allBelow-all, allBelow-same, allBelow-every, bit-none}
+use Rattle.el.specs.TestLaws.{is-true, same-test, true-is, and-make, and-left, and-right, anyBelow-hit, anyBelow-found, anyBelow-none, anyBelow-same, allBelow-at, allBelow-all, allBelow-same, allBelow-every, bit-none}
 use Rattle.el.specs.Description.{Description, top, name, meet, some, below}
 use Rattle.el.specs.Table.{Filler, topF, constantF, variableF, Entry, constant, restriction, variable, Row, Line, Table, rowAt, atoms, fillerDeclared, rowDeclared, entryDeclared, lineDeclared, declared}
 use Rattle.el.specs.Meaning.{Substitution, fillerUnder, rowUnder, entryUnder, leftUnder, holds}
 use Rattle.el.specs.Assignment.{Assignment, setOf, acyclic, atomUnder, conjoin, setUnder, inducedTo, induced}
 use Rattle.el.specs.InducedLaws.{conjoin-below, conjoin-name, conjoin-some, induced-at}
-use Rattle.order.specs.Rule.{fillerSet, entrySet, atomRow, isConstant, flatTest, atomTest, setTest, fillerTest, entryTest, leftTest, lineTest}
+use Rattle.order.specs.Rule.{fillerSet, entrySet, atomRow, flatTest, atomTest, setTest, fillerTest, entryTest, leftTest, lineTest}
 
 ----------------------------------------------------------------------------------------------------
 -- Bits
@@ -121,6 +120,7 @@ module _ (under : ℕ → ℕ → Bool) where
     where
       row : Row
       row = rowAt (t .rows) (j - t .constants)
+
       go : (b : Bool) → below under (conjoin n p d) (elim b [ true ↦ name j | false ↦ rowUnder σ row ]) ≡ anyBelow n (λ i. p i && below under (d i) (elim b [ true ↦ name j | false ↦ rowUnder σ row ]))
       go true = conjoin-name under j n p d
       go false = conjoin-some under (row .role) (λ E. below under E (fillerUnder σ (row .filler))) n p d
@@ -284,6 +284,7 @@ module _ (under : ℕ → ℕ → Bool) (t : Table) (fine : T (declared t)) (a :
       where
         left : Description
         left = leftUnder (t .rows) (induced t a) (l .left)
+
         each : (j : ℕ) → leftTest under t a (l .left) j ≡ below under left (atomUnder t (induced t a) j)
         each j =
             left-agrees (l .left) (and-left (everyOf (entryDeclared t) (l .left)) (entryDeclared t (l .right)) u) j

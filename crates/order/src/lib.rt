@@ -142,7 +142,16 @@ fn filler_below(table: &[u8], set: &[u32], c: usize, e: usize, f: u8, g: u8, dep
 }
 
 // Some left entry of line n, which begins at the byte `at`, lies below atom j.
-fn left_below(table: &[u8], set: &[u32], c: usize, e: usize, v: usize, n: usize, at: usize, j: usize) -> bool
+fn left_below(
+    table: &[u8],
+    set: &[u32],
+    c: usize,
+    e: usize,
+    v: usize,
+    n: usize,
+    at: usize,
+    j: usize,
+) -> bool
     requires { ⌜ Given (now table) (now set) c e × (v ≡ byteAt (now table) 7) × (n < byteAt (now table) 9) × (at ≡ lineStart (now table) n) × (j < c + e) ⌝ }
     ensures { λ r. ⌜ r ≡ leftTest sameRole (tableOf (now (table .entry))) (now (set .entry)) (lineAt (tableOf (now (table .entry)) .lines) n .left) j ⌝ }
 {
@@ -159,7 +168,15 @@ fn left_below(table: &[u8], set: &[u32], c: usize, e: usize, v: usize, n: usize,
 }
 
 // Line n, which begins at the byte `at`, holds under the substitution that the sets induce.
-pub fn line_holds(table: &[u8], set: &[u32], c: usize, e: usize, v: usize, n: usize, at: usize) -> bool
+pub fn line_holds(
+    table: &[u8],
+    set: &[u32],
+    c: usize,
+    e: usize,
+    v: usize,
+    n: usize,
+    at: usize,
+) -> bool
     requires { ⌜ LineGiven (now table) (now set) c e v n at ⌝ }
     ensures { λ r. ⌜ r ≡ holds sameRole (tableOf (now (table .entry)) .rows) (induced (tableOf (now (table .entry))) (now (set .entry))) (lineAt (tableOf (now (table .entry)) .lines) n) ⌝ }
 {

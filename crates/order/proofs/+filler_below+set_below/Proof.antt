@@ -1,14 +1,15 @@
-use mathlib.Core.Path.{_≡_, refl, sym, _∙_}
+-- The two questions meet their contracts. The measure is twice the dependences left, one more for the conjunction's question.
+-- The loop of `set_below`: no row passed so far lies below the atom; of `filler_below`: each atom passed so far has the left set below it.
+use mathlib.Core.Path.{_≡_, sym, _∙_}
 use mathlib.Core.Bool.{true, false}
 use mathlib.Core.Logic.{⊎-elim}
-use Prim.Native.Nat.{_+_, _*_, _-_, _≤_}
+use Prim.Native.Nat.{ℕ, _+_, _*_, _-_, _≤_, _<_}
 use native.Mathlib.Omega.{arith}
 use borrow.Author.Needs.{needs}
 use borrow.Author.Tests.{not-true, not-false}
 use Rattle.el.specs.Test.{anyBelow, allBelow}
 use Rattle.el.specs.TestLaws.{anyBelow-step, anyBelow-true-at, allBelow-step, allBelow-false-at}
 use Rattle.order.proofs.Laws.{bit-on, bit-off, any-start, any-end, all-start, all-end, row-filler, atom-filler-code, RowAsk, row-off, row-other, row-false, row-true, rows-rest, set-constant, set-rows, AtomAsk, atom-off, atom-true, atom-false, atoms-rest, filler-flat, filler-atoms}
-use Prim.Native.Nat.{ℕ, _<_}
 use borrow.Fn.Kinds.{In}
 use borrow.Fn.PlainCycle.{Measures, is, falls, and}
 use Rattle.order.proofs.filler_below.Reads as filler-below
@@ -54,7 +55,6 @@ filler-below-Inv-loop table set c e f g depth left right j₀ j = (j ≤ c + e) 
 abbrev filler-below-μ-loop : filler-below-lts.MeasureT-loop
 filler-below-μ-loop table set c e f g depth left right j₀ j = c + e - j
 
--- src/lib.rt:113:9
 filler-below-flat-below-requires : (t : ℕ) → filler-below-lts.Need-flat-below-requires (
   flat-below-reads.Asked,
   flat-below-reads.Learnt,
@@ -65,7 +65,6 @@ filler-below-flat-below-requires : (t : ℕ) → filler-below-lts.Need-flat-belo
 ) (filler-below-at t) filler-below.Post filler-below-Inv-loop filler-below-μ-loop
 filler-below-flat-below-requires t c κs = search needs
 
--- src/lib.rt:113:9
 filler-below-returns : (t : ℕ) → filler-below-lts.Need-returns (
   flat-below-reads.Asked,
   flat-below-reads.Learnt,
@@ -76,7 +75,6 @@ filler-below-returns : (t : ℕ) → filler-below-lts.Need-returns (
 ) (filler-below-at t) filler-below.Post filler-below-Inv-loop filler-below-μ-loop
 filler-below-returns t c = c .flat-below .ensures ∙ filler-flat _ _ _ _ _ (c .before .if1 .taken)
 
--- src/lib.rt:115:9
 filler-below-filler-set-requires : (t : ℕ) → filler-below-lts.Need-filler-set-requires (
   flat-below-reads.Asked,
   flat-below-reads.Learnt,
@@ -87,7 +85,6 @@ filler-below-filler-set-requires : (t : ℕ) → filler-below-lts.Need-filler-se
 ) (filler-below-at t) filler-below.Post filler-below-Inv-loop filler-below-μ-loop
 filler-below-filler-set-requires t c κs = (c .before .before .before .pre .1 .0, c .before .before .before .pre .1 .1)
 
--- src/lib.rt:116:9
 filler-below-filler-set-requires-2 : (t : ℕ) → filler-below-lts.Need-filler-set-requires-2 (
   flat-below-reads.Asked,
   flat-below-reads.Learnt,
@@ -98,7 +95,6 @@ filler-below-filler-set-requires-2 : (t : ℕ) → filler-below-lts.Need-filler-
 ) (filler-below-at t) filler-below.Post filler-below-Inv-loop filler-below-μ-loop
 filler-below-filler-set-requires-2 t c κs = (c .before .before .before .before .pre .1 .0, c .before .before .before .before .pre .1 .2)
 
--- src/lib.rt:118:5
 filler-below-loop-holds : (t : ℕ) → filler-below-lts.Need-loop-holds (
   flat-below-reads.Asked,
   flat-below-reads.Learnt,
@@ -109,7 +105,6 @@ filler-below-loop-holds : (t : ℕ) → filler-below-lts.Need-loop-holds (
 ) (filler-below-at t) filler-below.Post filler-below-Inv-loop filler-below-μ-loop
 filler-below-loop-holds t c = (omega arith, all-start _)
 
--- src/lib.rt:118:15
 filler-below-add-loop : (t : ℕ) → filler-below-lts.Need-add-loop (
   flat-below-reads.Asked,
   flat-below-reads.Learnt,
@@ -120,7 +115,6 @@ filler-below-add-loop : (t : ℕ) → filler-below-lts.Need-add-loop (
 ) (filler-below-at t) filler-below.Post filler-below-Inv-loop filler-below-μ-loop
 filler-below-add-loop t c = omega arith
 
--- src/lib.rt:119:29
 filler-below-cast-rest : (t : ℕ) → filler-below-lts.Need-cast-rest (
   flat-below-reads.Asked,
   flat-below-reads.Learnt,
@@ -131,7 +125,6 @@ filler-below-cast-rest : (t : ℕ) → filler-below-lts.Need-cast-rest (
 ) (filler-below-at t) filler-below.Post filler-below-Inv-loop filler-below-μ-loop
 filler-below-cast-rest t c = omega arith
 
--- src/lib.rt:119:20
 filler-below-shr-rest : (t : ℕ) → filler-below-lts.Need-shr-rest (
   flat-below-reads.Asked,
   flat-below-reads.Learnt,
@@ -142,7 +135,6 @@ filler-below-shr-rest : (t : ℕ) → filler-below-lts.Need-shr-rest (
 ) (filler-below-at t) filler-below.Post filler-below-Inv-loop filler-below-μ-loop
 filler-below-shr-rest t c = omega arith
 
--- src/lib.rt:121:13
 filler-below-returns-2 : (t : ℕ) → filler-below-lts.Need-returns-2 (
   flat-below-reads.Asked,
   flat-below-reads.Learnt,
@@ -153,7 +145,6 @@ filler-below-returns-2 : (t : ℕ) → filler-below-lts.Need-returns-2 (
 ) (filler-below-at t) filler-below.Post filler-below-Inv-loop filler-below-μ-loop
 filler-below-returns-2 t c = sym (filler-atoms _ _ _ _ (c .before .before .before .before .before .before .before .before .pre .1 .0) _ _ _ _ _ (c .before .before .before .before .before .if1 .left) (c .before .before .before .before .filler-set .ensures) (c .before .before .before .filler-set2 .ensures) ∙ atoms-rest _ _ _ _ _ _ _ (c .before .before .loop .inv .1) (c .if2 .taken))
 
--- src/lib.rt:124:54
 filler-below-sub-set-below : (t : ℕ) → filler-below-lts.Need-sub-set-below (
   flat-below-reads.Asked,
   flat-below-reads.Learnt,
@@ -164,7 +155,6 @@ filler-below-sub-set-below : (t : ℕ) → filler-below-lts.Need-sub-set-below (
 ) (filler-below-at t) filler-below.Post filler-below-Inv-loop filler-below-μ-loop
 filler-below-sub-set-below t c = omega arith
 
--- src/lib.rt:124:17
 filler-below-set-below-requires : (t : ℕ) → filler-below-lts.Need-set-below-requires (
   flat-below-reads.Asked,
   flat-below-reads.Learnt,
@@ -175,7 +165,6 @@ filler-below-set-below-requires : (t : ℕ) → filler-below-lts.Need-set-below-
 ) (filler-below-at t) filler-below.Post filler-below-Inv-loop filler-below-μ-loop
 filler-below-set-below-requires t c κs = (omega arith, (c .before .before .before .before .before .before .before .before .before .pre .1 .0, omega arith))
 
--- src/lib.rt:125:17
 filler-below-returns-3 : (t : ℕ) → filler-below-lts.Need-returns-3 (
   flat-below-reads.Asked,
   flat-below-reads.Learnt,
@@ -186,7 +175,6 @@ filler-below-returns-3 : (t : ℕ) → filler-below-lts.Need-returns-3 (
 ) (filler-below-at t) filler-below.Post filler-below-Inv-loop filler-below-μ-loop
 filler-below-returns-3 t c = sym (filler-atoms _ _ _ _ (c .before .before .before .before .before .before .before .before .before .before .before .pre .1 .0) _ _ _ _ _ (c .before .before .before .before .before .before .before .before .if1 .left) (c .before .before .before .before .before .before .before .filler-set .ensures) (c .before .before .before .before .before .before .filler-set2 .ensures) ∙ allBelow-false-at _ _ _ (c .before .before .before .before .loop-test .taken) (atom-false _ _ _ _ _ _ (bit-on _ _ (c .before .before .if3 .taken)) (sym (c .before .set-below .ensures) ∙ not-true _ (c .if4 .taken))))
 
--- src/lib.rt:128:9
 filler-below-add-j : (t : ℕ) → filler-below-lts.Need-add-j (
   flat-below-reads.Asked,
   flat-below-reads.Learnt,
@@ -197,7 +185,6 @@ filler-below-add-j : (t : ℕ) → filler-below-lts.Need-add-j (
 ) (filler-below-at t) filler-below.Post filler-below-Inv-loop filler-below-μ-loop
 filler-below-add-j t c = omega arith
 
--- src/lib.rt:118:5
 filler-below-loop-less : (t : ℕ) → filler-below-lts.Need-loop-less (
   flat-below-reads.Asked,
   flat-below-reads.Learnt,
@@ -208,7 +195,6 @@ filler-below-loop-less : (t : ℕ) → filler-below-lts.Need-loop-less (
 ) (filler-below-at t) filler-below.Post filler-below-Inv-loop filler-below-μ-loop
 filler-below-loop-less t c = omega arith
 
--- src/lib.rt:118:5
 filler-below-loop-again : (t : ℕ) → filler-below-lts.Need-loop-again (
   flat-below-reads.Asked,
   flat-below-reads.Learnt,
@@ -217,12 +203,13 @@ filler-below-loop-again : (t : ℕ) → filler-below-lts.Need-loop-again (
   set-below-below t,
   set-below.Post,
 ) (filler-below-at t) filler-below.Post filler-below-Inv-loop filler-below-μ-loop
-filler-below-loop-again t c = 
-    (omega arith, allBelow-step _ _ (c .before .before .before .loop .inv .1)
-    (⊎-elim (λ w. atom-true _ _ _ _ _ _ (sym (w .1 .ensures) ∙ not-false _ (w .2 .left)))
-    (λ w. atom-off _ _ _ _ _ _ (bit-off _ _ (w .left))) (c .if3 .came)))
+filler-below-loop-again t c = (
+  omega arith,
+  allBelow-step _ _ (c .before .before .before .loop .inv .1)
+      (⊎-elim (λ w. atom-true _ _ _ _ _ _ (sym (w .1 .ensures) ∙ not-false _ (w .2 .left)))
+      (λ w. atom-off _ _ _ _ _ _ (bit-off _ _ (w .left))) (c .if3 .came)),
+)
 
--- src/lib.rt:108:1
 filler-below-returns-4 : (t : ℕ) → filler-below-lts.Need-returns-4 (
   flat-below-reads.Asked,
   flat-below-reads.Learnt,
@@ -239,7 +226,6 @@ set-below-Inv-loop table set c e s j depth at role filler k₀ k = (k ≤ e) × 
 abbrev set-below-μ-loop : set-below-lts.MeasureT-loop
 set-below-μ-loop table set c e s j depth at role filler k₀ k = e - k
 
--- src/lib.rt:84:9
 set-below-bit-of-requires : (t : ℕ) → set-below-lts.Need-bit-of-requires (
   bit-of-reads.Asked,
   bit-of-reads.Learnt,
@@ -248,7 +234,6 @@ set-below-bit-of-requires : (t : ℕ) → set-below-lts.Need-bit-of-requires (
 ) (set-below-at t) set-below.Post set-below-Inv-loop set-below-μ-loop
 set-below-bit-of-requires t c κs = omega arith
 
--- src/lib.rt:84:9
 set-below-returns : (t : ℕ) → set-below-lts.Need-returns (
   bit-of-reads.Asked,
   bit-of-reads.Learnt,
@@ -257,7 +242,6 @@ set-below-returns : (t : ℕ) → set-below-lts.Need-returns (
 ) (set-below-at t) set-below.Post set-below-Inv-loop set-below-μ-loop
 set-below-returns t c = c .bit-of .ensures ∙ set-constant _ _ _ _ (c .before .before .before .before .pre .1 .0) _ _ _ (c .before .if1 .taken)
 
--- src/lib.rt:86:21
 set-below-mul-at : (t : ℕ) → set-below-lts.Need-mul-at (
   bit-of-reads.Asked,
   bit-of-reads.Learnt,
@@ -266,7 +250,6 @@ set-below-mul-at : (t : ℕ) → set-below-lts.Need-mul-at (
 ) (set-below-at t) set-below.Post set-below-Inv-loop set-below-μ-loop
 set-below-mul-at t c = omega arith
 
--- src/lib.rt:86:14
 set-below-add-at : (t : ℕ) → set-below-lts.Need-add-at (
   bit-of-reads.Asked,
   bit-of-reads.Learnt,
@@ -275,7 +258,6 @@ set-below-add-at : (t : ℕ) → set-below-lts.Need-add-at (
 ) (set-below-at t) set-below.Post set-below-Inv-loop set-below-μ-loop
 set-below-add-at t c = omega arith
 
--- src/lib.rt:87:16
 set-below-shared-slice-read-role : (t : ℕ) → set-below-lts.Need-shared-slice-read-role (
   bit-of-reads.Asked,
   bit-of-reads.Learnt,
@@ -284,7 +266,6 @@ set-below-shared-slice-read-role : (t : ℕ) → set-below-lts.Need-shared-slice
 ) (set-below-at t) set-below.Post set-below-Inv-loop set-below-μ-loop
 set-below-shared-slice-read-role t c = omega arith
 
--- src/lib.rt:88:24
 set-below-add-filler : (t : ℕ) → set-below-lts.Need-add-filler (
   bit-of-reads.Asked,
   bit-of-reads.Learnt,
@@ -293,7 +274,6 @@ set-below-add-filler : (t : ℕ) → set-below-lts.Need-add-filler (
 ) (set-below-at t) set-below.Post set-below-Inv-loop set-below-μ-loop
 set-below-add-filler t c = omega arith
 
--- src/lib.rt:88:18
 set-below-shared-slice-read-filler : (t : ℕ) → set-below-lts.Need-shared-slice-read-filler (
   bit-of-reads.Asked,
   bit-of-reads.Learnt,
@@ -302,7 +282,6 @@ set-below-shared-slice-read-filler : (t : ℕ) → set-below-lts.Need-shared-sli
 ) (set-below-at t) set-below.Post set-below-Inv-loop set-below-μ-loop
 set-below-shared-slice-read-filler t c = omega arith
 
--- src/lib.rt:90:5
 set-below-loop-holds : (t : ℕ) → set-below-lts.Need-loop-holds (
   bit-of-reads.Asked,
   bit-of-reads.Learnt,
@@ -311,7 +290,6 @@ set-below-loop-holds : (t : ℕ) → set-below-lts.Need-loop-holds (
 ) (set-below-at t) set-below.Post set-below-Inv-loop set-below-μ-loop
 set-below-loop-holds t c = (omega arith, any-start _)
 
--- src/lib.rt:91:26
 set-below-add-rest : (t : ℕ) → set-below-lts.Need-add-rest (
   bit-of-reads.Asked,
   bit-of-reads.Learnt,
@@ -320,7 +298,6 @@ set-below-add-rest : (t : ℕ) → set-below-lts.Need-add-rest (
 ) (set-below-at t) set-below.Post set-below-Inv-loop set-below-μ-loop
 set-below-add-rest t c = omega arith
 
--- src/lib.rt:91:26
 set-below-cast-rest : (t : ℕ) → set-below-lts.Need-cast-rest (
   bit-of-reads.Asked,
   bit-of-reads.Learnt,
@@ -329,7 +306,6 @@ set-below-cast-rest : (t : ℕ) → set-below-lts.Need-cast-rest (
 ) (set-below-at t) set-below.Post set-below-Inv-loop set-below-μ-loop
 set-below-cast-rest t c = omega arith
 
--- src/lib.rt:91:20
 set-below-shr-rest : (t : ℕ) → set-below-lts.Need-shr-rest (
   bit-of-reads.Asked,
   bit-of-reads.Learnt,
@@ -338,7 +314,6 @@ set-below-shr-rest : (t : ℕ) → set-below-lts.Need-shr-rest (
 ) (set-below-at t) set-below.Post set-below-Inv-loop set-below-μ-loop
 set-below-shr-rest t c = omega arith
 
--- src/lib.rt:93:13
 set-below-returns-2 : (t : ℕ) → set-below-lts.Need-returns-2 (
   bit-of-reads.Asked,
   bit-of-reads.Learnt,
@@ -347,7 +322,6 @@ set-below-returns-2 : (t : ℕ) → set-below-lts.Need-returns-2 (
 ) (set-below-at t) set-below.Post set-below-Inv-loop set-below-μ-loop
 set-below-returns-2 t c = sym (set-rows _ _ _ _ (c .before .before .before .before .before .before .before .before .pre .1 .0) _ _ _ (c .before .before .before .before .before .if1 .left) (c .before .before .before .before .before .before .before .before .pre .1 .1) ∙ rows-rest _ _ _ _ _ _ _ _ _ (c .before .before .loop .inv .1) (c .if2 .taken))
 
--- src/lib.rt:96:29
 set-below-mul-if4 : (t : ℕ) → set-below-lts.Need-mul-if4 (
   bit-of-reads.Asked,
   bit-of-reads.Learnt,
@@ -356,7 +330,6 @@ set-below-mul-if4 : (t : ℕ) → set-below-lts.Need-mul-if4 (
 ) (set-below-at t) set-below.Post set-below-Inv-loop set-below-μ-loop
 set-below-mul-if4 t c = omega arith
 
--- src/lib.rt:96:22
 set-below-add-if4 : (t : ℕ) → set-below-lts.Need-add-if4 (
   bit-of-reads.Asked,
   bit-of-reads.Learnt,
@@ -365,7 +338,6 @@ set-below-add-if4 : (t : ℕ) → set-below-lts.Need-add-if4 (
 ) (set-below-at t) set-below.Post set-below-Inv-loop set-below-μ-loop
 set-below-add-if4 t c = omega arith
 
--- src/lib.rt:96:16
 set-below-shared-slice-read-if4 : (t : ℕ) → set-below-lts.Need-shared-slice-read-if4 (
   bit-of-reads.Asked,
   bit-of-reads.Learnt,
@@ -374,7 +346,6 @@ set-below-shared-slice-read-if4 : (t : ℕ) → set-below-lts.Need-shared-slice-
 ) (set-below-at t) set-below.Post set-below-Inv-loop set-below-μ-loop
 set-below-shared-slice-read-if4 t c = omega arith
 
--- src/lib.rt:97:57
 set-below-add-filler-below : (t : ℕ) → set-below-lts.Need-add-filler-below (
   bit-of-reads.Asked,
   bit-of-reads.Learnt,
@@ -383,7 +354,6 @@ set-below-add-filler-below : (t : ℕ) → set-below-lts.Need-add-filler-below (
 ) (set-below-at t) set-below.Post set-below-Inv-loop set-below-μ-loop
 set-below-add-filler-below t c = omega arith
 
--- src/lib.rt:97:68
 set-below-mul-filler-below : (t : ℕ) → set-below-lts.Need-mul-filler-below (
   bit-of-reads.Asked,
   bit-of-reads.Learnt,
@@ -392,7 +362,6 @@ set-below-mul-filler-below : (t : ℕ) → set-below-lts.Need-mul-filler-below (
 ) (set-below-at t) set-below.Post set-below-Inv-loop set-below-μ-loop
 set-below-mul-filler-below t c = omega arith
 
--- src/lib.rt:97:57
 set-below-add-filler-below-2 : (t : ℕ) → set-below-lts.Need-add-filler-below-2 (
   bit-of-reads.Asked,
   bit-of-reads.Learnt,
@@ -401,7 +370,6 @@ set-below-add-filler-below-2 : (t : ℕ) → set-below-lts.Need-add-filler-below
 ) (set-below-at t) set-below.Post set-below-Inv-loop set-below-μ-loop
 set-below-add-filler-below-2 t c = omega arith
 
--- src/lib.rt:97:51
 set-below-shared-slice-read-filler-below :
     (t : ℕ) → set-below-lts.Need-shared-slice-read-filler-below (
       bit-of-reads.Asked,
@@ -411,7 +379,6 @@ set-below-shared-slice-read-filler-below :
     ) (set-below-at t) set-below.Post set-below-Inv-loop set-below-μ-loop
 set-below-shared-slice-read-filler-below t c = omega arith
 
--- src/lib.rt:97:20
 set-below-filler-below-requires : (t : ℕ) → set-below-lts.Need-filler-below-requires (
   bit-of-reads.Asked,
   bit-of-reads.Learnt,
@@ -423,7 +390,6 @@ set-below-filler-below-requires t c κs =
     let asked = atom-filler-code _ _ _ _ (c .before .before .before .before .before .before .before .before .before .before .before .before .pre .1 .0) _ (c .before .before .before .before .before .before .before .before .before .if1 .left) (c .before .before .before .before .before .before .before .before .before .before .before .before .pre .1 .1) in
     (omega arith, (c .before .before .before .before .before .before .before .before .before .before .before .before .pre .1 .0, search needs, search needs))
 
--- src/lib.rt:98:21
 set-below-returns-3 : (t : ℕ) → set-below-lts.Need-returns-3 (
   bit-of-reads.Asked,
   bit-of-reads.Learnt,
@@ -432,7 +398,6 @@ set-below-returns-3 : (t : ℕ) → set-below-lts.Need-returns-3 (
 ) (set-below-at t) set-below.Post set-below-Inv-loop set-below-μ-loop
 set-below-returns-3 t c = sym (set-rows _ _ _ _ (c .before .before .before .before .before .before .before .before .before .before .before .before .before .before .pre .1 .0) _ _ _ (c .before .before .before .before .before .before .before .before .before .before .before .if1 .left) (c .before .before .before .before .before .before .before .before .before .before .before .before .before .before .pre .1 .1) ∙ anyBelow-true-at _ _ _ (c .before .before .before .before .before .before .before .loop-test .taken) (row-true _ _ _ _ _ _ _ _ (bit-on _ _ (c .before .before .before .before .before .if3 .taken)) (c .before .before .before .if4 .taken) (sym (c .before .filler-below .ensures) ∙ c .if5 .taken)))
 
--- src/lib.rt:102:9
 set-below-add-k : (t : ℕ) → set-below-lts.Need-add-k (
   bit-of-reads.Asked,
   bit-of-reads.Learnt,
@@ -441,7 +406,6 @@ set-below-add-k : (t : ℕ) → set-below-lts.Need-add-k (
 ) (set-below-at t) set-below.Post set-below-Inv-loop set-below-μ-loop
 set-below-add-k t c = omega arith
 
--- src/lib.rt:90:5
 set-below-loop-less : (t : ℕ) → set-below-lts.Need-loop-less (
   bit-of-reads.Asked,
   bit-of-reads.Learnt,
@@ -450,19 +414,19 @@ set-below-loop-less : (t : ℕ) → set-below-lts.Need-loop-less (
 ) (set-below-at t) set-below.Post set-below-Inv-loop set-below-μ-loop
 set-below-loop-less t c = omega arith
 
--- src/lib.rt:90:5
 set-below-loop-again : (t : ℕ) → set-below-lts.Need-loop-again (
   bit-of-reads.Asked,
   bit-of-reads.Learnt,
   filler-below-below t,
   filler-below.Post,
 ) (set-below-at t) set-below.Post set-below-Inv-loop set-below-μ-loop
-set-below-loop-again t c = 
-    (omega arith, anyBelow-step _ _ (c .before .before .before .loop .inv .1)
-    (⊎-elim (λ w. row-false _ _ _ _ _ _ _ _ (sym (w .4 .ensures) ∙ w .5 .left))
-    (⊎-elim (λ w. row-other _ _ _ _ _ _ _ _ (w .2 .left)) (λ w. row-off _ _ _ _ _ _ _ _ (bit-off _ _ (w .left)))) (c .if3 .came)))
+set-below-loop-again t c = (
+  omega arith,
+  anyBelow-step _ _ (c .before .before .before .loop .inv .1)
+      (⊎-elim (λ w. row-false _ _ _ _ _ _ _ _ (sym (w .4 .ensures) ∙ w .5 .left))
+      (⊎-elim (λ w. row-other _ _ _ _ _ _ _ _ (w .2 .left)) (λ w. row-off _ _ _ _ _ _ _ _ (bit-off _ _ (w .left)))) (c .if3 .came)),
+)
 
--- src/lib.rt:79:1
 set-below-returns-4 : (t : ℕ) → set-below-lts.Need-returns-4 (
   bit-of-reads.Asked,
   bit-of-reads.Learnt,

@@ -1,94 +1,70 @@
+-- `order::entry_set` is the set of the entry, by the kind of its code; a declared code holds a number in range.
 use mathlib.Core.Path.{refl, sym, _∙_}
 use Rattle.order.proofs.Laws.{constant-count, entry-constant-fits, entry-restriction-fits, entry-variable-fits, entry-none, entry-one, entry-row, entry-given}
 use borrow.Author.Needs.{needs}
 use Rattle.order.proofs.entry_set.Statement.{statement}
 use Rattle.order.proofs.entry_set.Tie as tie
-use Rattle.order.proofs.entry_set.Reads as reads
-use Rattle.order.proofs.entry_set.Lts as lts
-use Rattle.order.proofs.wide.Reads as wide-reads
-use Rattle.table.proofs.kind_of.Reads as kind-of-reads
 
--- src/lib.rt:56:11
 kind-of-requires : tie.Need-kind-of-requires
 kind-of-requires c κs = search needs
 
--- src/lib.rt:57:22
 enum-told : tie.Need-enum-told
 enum-told c = search needs
 
--- src/lib.rt:58:24
 enum-known-k : tie.Need-enum-known-k
 enum-known-k c = search needs
 
--- src/lib.rt:58:38
 wide-requires : tie.Need-wide-requires
 wide-requires c κs = search needs
 
--- src/lib.rt:58:38
 cast-result : tie.Need-cast-result
 cast-result c = search needs
 
--- src/lib.rt:58:30
 shl-result : tie.Need-shl-result
 shl-result c = entry-constant-fits _ _ _ _ (c .before .before .before .before .before .before .before .pre .0) _ _ _ (c .wide .ensures) (c .before .before .before .before .before .before .before .pre .1) (sym (c .before .before .before .before .kind-of .ensures) ∙ c .before .before .k .given .1)
 
--- src/lib.rt:59:27
 enum-known-k-2 : tie.Need-enum-known-k-2
 enum-known-k-2 c = search needs
 
--- src/lib.rt:59:46
 wide-requires-2 : tie.Need-wide-requires-2
 wide-requires-2 c κs = search needs
 
--- src/lib.rt:59:42
 add-result : tie.Need-add-result
 add-result c = search needs
 
--- src/lib.rt:59:42
 cast-result-2 : tie.Need-cast-result-2
 cast-result-2 c = search needs
 
--- src/lib.rt:59:33
 shl-result-2 : tie.Need-shl-result-2
 shl-result-2 c = entry-restriction-fits _ _ _ _ (c .before .before .before .before .before .before .before .pre .0) _ _ _ (c .wide2 .ensures) (c .before .before .before .before .before .before .before .pre .1) (sym (c .before .before .before .before .kind-of .ensures) ∙ c .before .before .k2 .given .1)
 
--- src/lib.rt:60:24
 enum-known-y : tie.Need-enum-known-y
 enum-known-y c = search needs
 
--- src/lib.rt:60:34
 wide-requires-3 : tie.Need-wide-requires-3
 wide-requires-3 c κs = search needs
 
--- src/lib.rt:60:30
 mul-result : tie.Need-mul-result
 mul-result c = search needs
 
--- src/lib.rt:60:30
 shared-slice-read-result : tie.Need-shared-slice-read-result
 shared-slice-read-result c = entry-variable-fits _ _ _ _ (c .before .before .before .before .before .before .before .before .pre .0) _ _ _ (c .before .wide3 .ensures) (c .before .before .before .before .before .before .before .before .pre .1) (sym (c .before .before .before .before .before .kind-of .ensures) ∙ c .before .before .before .y .given .1)
 
--- src/lib.rt:61:24
 enum-told-2 : tie.Need-enum-told-2
 enum-told-2 c = search needs
 
--- src/lib.rt:52:1
 returns : tie.Need-returns
 returns c = entry-none _ _ _ _ (sym (c .before .before .kind-of .ensures) ∙ c .enum-told .given .1) refl
 
--- src/lib.rt:52:1
 returns-2 : tie.Need-returns-2
 returns-2 c = entry-one _ _ _ _ _ (c .wide .ensures) (entry-constant-fits _ _ _ _ (c .before .before .before .before .before .before .before .pre .0) _ _ _ (c .wide .ensures) (c .before .before .before .before .before .before .before .pre .1) (sym (c .before .before .before .before .kind-of .ensures) ∙ c .before .before .k .given .1)) (sym (c .before .before .before .before .kind-of .ensures) ∙ c .before .before .k .given .1)
 
--- src/lib.rt:52:1
 returns-3 : tie.Need-returns-3
 returns-3 c = entry-row _ _ _ _ _ _ (sym (constant-count _ _ _ _ (c .before .before .before .before .before .before .before .pre .0))) (c .wide2 .ensures) (entry-restriction-fits _ _ _ _ (c .before .before .before .before .before .before .before .pre .0) _ _ _ (c .wide2 .ensures) (c .before .before .before .before .before .before .before .pre .1) (sym (c .before .before .before .before .kind-of .ensures) ∙ c .before .before .k2 .given .1)) (sym (c .before .before .before .before .kind-of .ensures) ∙ c .before .before .k2 .given .1)
 
--- src/lib.rt:52:1
 returns-4 : tie.Need-returns-4
 returns-4 c = entry-given _ _ _ _ _ (c .before .wide3 .ensures) (sym (c .before .before .before .before .before .kind-of .ensures) ∙ c .before .before .before .y .given .1)
 
--- src/lib.rt:52:1
 returns-5 : tie.Need-returns-5
 returns-5 c = entry-none _ _ _ _ (sym (c .before .before .kind-of .ensures) ∙ c .enum-told2 .given .1) refl
 

@@ -1,78 +1,58 @@
+-- `order::filler_set` is the set of the filler, by the kind of its code; a declared code holds a number in range.
 use mathlib.Core.Path.{refl, sym, _∙_}
 use Rattle.order.proofs.Laws.{filler-constant-fits, filler-variable-fits, set-none, set-one, set-given}
 use borrow.Author.Needs.{needs}
 use Rattle.order.proofs.filler_set.Statement.{statement}
 use Rattle.order.proofs.filler_set.Tie as tie
-use Rattle.order.proofs.filler_set.Reads as reads
-use Rattle.order.proofs.filler_set.Lts as lts
-use Rattle.order.proofs.wide.Reads as wide-reads
-use Rattle.table.proofs.kind_of.Reads as kind-of-reads
 
--- src/lib.rt:42:11
 kind-of-requires : tie.Need-kind-of-requires
 kind-of-requires c κs = search needs
 
--- src/lib.rt:43:22
 enum-told : tie.Need-enum-told
 enum-told c = search needs
 
--- src/lib.rt:44:24
 enum-known-k : tie.Need-enum-known-k
 enum-known-k c = search needs
 
--- src/lib.rt:44:38
 wide-requires : tie.Need-wide-requires
 wide-requires c κs = search needs
 
--- src/lib.rt:44:38
 cast-result : tie.Need-cast-result
 cast-result c = search needs
 
--- src/lib.rt:44:30
 shl-result : tie.Need-shl-result
 shl-result c = filler-constant-fits _ _ _ _ (c .before .before .before .before .before .before .before .pre .0) _ _ _ (c .wide .ensures) (c .before .before .before .before .before .before .before .pre .1) (sym (c .before .before .before .before .kind-of .ensures) ∙ c .before .before .k .given .1)
 
--- src/lib.rt:45:33
 enum-told-2 : tie.Need-enum-told-2
 enum-told-2 c = search needs
 
--- src/lib.rt:46:24
 enum-known-x : tie.Need-enum-known-x
 enum-known-x c = search needs
 
--- src/lib.rt:46:34
 wide-requires-2 : tie.Need-wide-requires-2
 wide-requires-2 c κs = search needs
 
--- src/lib.rt:46:30
 mul-result : tie.Need-mul-result
 mul-result c = search needs
 
--- src/lib.rt:46:30
 shared-slice-read-result : tie.Need-shared-slice-read-result
 shared-slice-read-result c = filler-variable-fits _ _ _ _ (c .before .before .before .before .before .before .before .before .pre .0) _ _ _ (c .before .wide2 .ensures) (c .before .before .before .before .before .before .before .before .pre .1) (sym (c .before .before .before .before .before .kind-of .ensures) ∙ c .before .before .before .x .given .1)
 
--- src/lib.rt:47:24
 enum-told-3 : tie.Need-enum-told-3
 enum-told-3 c = search needs
 
--- src/lib.rt:38:1
 returns : tie.Need-returns
 returns c = set-none _ _ _ (sym (c .before .before .kind-of .ensures) ∙ c .enum-told .given .1) refl
 
--- src/lib.rt:38:1
 returns-2 : tie.Need-returns-2
 returns-2 c = set-one _ _ _ _ (c .wide .ensures) (filler-constant-fits _ _ _ _ (c .before .before .before .before .before .before .before .pre .0) _ _ _ (c .wide .ensures) (c .before .before .before .before .before .before .before .pre .1) (sym (c .before .before .before .before .kind-of .ensures) ∙ c .before .before .k .given .1)) (sym (c .before .before .before .before .kind-of .ensures) ∙ c .before .before .k .given .1)
 
--- src/lib.rt:38:1
 returns-3 : tie.Need-returns-3
 returns-3 c = set-none _ _ _ (sym (c .before .before .kind-of .ensures) ∙ c .enum-told2 .given .1) refl
 
--- src/lib.rt:38:1
 returns-4 : tie.Need-returns-4
 returns-4 c = set-given _ _ _ _ (c .before .wide2 .ensures) (sym (c .before .before .before .before .before .kind-of .ensures) ∙ c .before .before .before .x .given .1)
 
--- src/lib.rt:38:1
 returns-5 : tie.Need-returns-5
 returns-5 c = set-none _ _ _ (sym (c .before .before .kind-of .ensures) ∙ c .enum-told3 .given .1) refl
 

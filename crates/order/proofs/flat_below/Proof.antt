@@ -1,58 +1,43 @@
+-- `order::flat_below` is the flat test, by the kind of the right code.
 use mathlib.Core.Path.{sym, _∙_}
 use Rattle.order.proofs.Laws.{flat-kind}
 use borrow.Author.Needs.{needs}
 use Rattle.order.proofs.flat_below.Statement.{statement}
 use Rattle.order.proofs.flat_below.Tie as tie
-use Rattle.order.proofs.flat_below.Reads as reads
-use Rattle.order.proofs.flat_below.Lts as lts
-use Rattle.order.proofs.is_constant.Reads as is-constant-reads
-use Rattle.table.proofs.kind_of.Reads as kind-of-reads
 
--- src/lib.rt:82:11
 kind-of-requires : tie.Need-kind-of-requires
 kind-of-requires c κs = search needs
 
--- src/lib.rt:83:22
 enum-told : tie.Need-enum-told
 enum-told c = search needs
 
--- src/lib.rt:84:24
 enum-known-k : tie.Need-enum-known-k
 enum-known-k c = search needs
 
--- src/lib.rt:84:30
 is-constant-requires : tie.Need-is-constant-requires
 is-constant-requires c κs = search needs
 
--- src/lib.rt:85:33
 enum-told-2 : tie.Need-enum-told-2
 enum-told-2 c = search needs
 
--- src/lib.rt:86:30
 enum-told-3 : tie.Need-enum-told-3
 enum-told-3 c = search needs
 
--- src/lib.rt:87:24
 enum-told-4 : tie.Need-enum-told-4
 enum-told-4 c = search needs
 
--- src/lib.rt:79:1
 returns : tie.Need-returns
 returns c = flat-kind _ _ _ (sym (c .before .before .kind-of .ensures) ∙ c .enum-told .given .1)
 
--- src/lib.rt:79:1
 returns-2 : tie.Need-returns-2
 returns-2 c = c .is-constant .ensures ∙ flat-kind _ _ _ (sym (c .before .before .before .before .kind-of .ensures) ∙ c .before .before .k .given .1)
 
--- src/lib.rt:79:1
 returns-3 : tie.Need-returns-3
 returns-3 c = flat-kind _ _ _ (sym (c .before .before .kind-of .ensures) ∙ c .enum-told2 .given .1)
 
--- src/lib.rt:79:1
 returns-4 : tie.Need-returns-4
 returns-4 c = flat-kind _ _ _ (sym (c .before .before .kind-of .ensures) ∙ c .enum-told3 .given .1)
 
--- src/lib.rt:79:1
 returns-5 : tie.Need-returns-5
 returns-5 c = flat-kind _ _ _ (sym (c .before .before .kind-of .ensures) ∙ c .enum-told4 .given .1)
 

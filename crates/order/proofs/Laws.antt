@@ -5,7 +5,8 @@
 --   filler-..-fits, entry-..-fits       == the number that a declared code holds is in range
 --   set-.., entry-..                    == the set of a filler's, an entry's code, by its kind
 --   constant-kind, flat-kind            == the flat test, by the kinds of the codes
---   row-.., atom-count                  == what the bytes of a row say
+--   bit-on, bit-off, ..-rest            == what the rest of a set number says of its bits
+--   row-.., atom-.., constant-count     == what the bytes of a row say, and how many atoms there are
 --   any-.., all-..                      == a loop over numbers begins, and ends
 --   RowAsk, AtomAsk                     == what is asked of each row, of each atom of the right set
 --   set-constant, set-rows              == a conjunction below a constant, and below a restriction

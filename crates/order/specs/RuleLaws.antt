@@ -1,8 +1,14 @@
 -- The rule answers the order between descriptions.
 --
 --   bit-power        == the number 2 ^ k has bit k alone
---   any-one, all-one == a test over a set of one atom asks that atom alone
+--   any-one, all-one == a test over a set of one atom asks that atom alone; any-no, all-no over the empty set
+--   Single E         == a conjunction lies below E where one of its conjuncts does: E is an atom
+--   left-below       == the left conjunction of a line lies below an atom where one of its entries does
+--   atom-declared    == the fillers of a declared table's rows are declared
+--   Answers fb σ     == fb answers for the fillers of rows as the order does under σ
+--   atom-agrees      == the test of two atoms answers the order between them
 --   Says S D         == the set S and the description D say the same, as left and as right side
+--   says-filler, says-entry == a filler's, an entry's set says what it says with the substitution carried out
 --   sets-agree       == the left set lies below each atom of the right one: the order between what the two say
 --   rule             == the two questions answer the order between two fillers with the assignment carried out
 --   line-rule        == the line test answers whether the induced substitution makes the line true

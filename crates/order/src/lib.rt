@@ -16,7 +16,7 @@ ghost use Rattle.order.specs.Rule.{isConstant, flatTest, fillerSet, entr
 ghost use Rattle.order.specs.Given.{fillerFrom, entryFrom, IsFiller, IsEntry, Given, LineGiven, setBelow, fillerBelow};
 
 // Where the restriction rows begin.
-const ROWS: usize = 10;
+const ROWS: usize = table::HEADER;
 
 fn wide(x: u8) -> usize
     ensures { λ r. ⌜ r ≡ x ⌝ }

@@ -9,7 +9,8 @@
 use mathlib.Core.Path.{_≡_, refl, sym, ap, ap₂, subst, _∙_}
 use mathlib.Core.Bool.{Bool, true, false, _&&_, not}
 use mathlib.Core.List.{List, [], _∷_}
-use Prim.Native.Nat.{ℕ, zero, suc, _+_, _-_, _^_, _≤_, _<_}
+use Prim.Native.Nat.{ℕ, zero, suc, _+_, _-_, _*_, _%_, _^_, _≤_, _<_}
+use native.Mathlib.Nat.{one-mul, mod-eq-of-lt}
 use native.Mathlib.Omega.{arith}
 use native.Mathlib.Decide.{ℕ-discrete}
 use lib.ListN.{length, getD, take, set}
@@ -17,6 +18,7 @@ use lib.Seq.{getD-set-same, getD-set-other, take-set-le}
 use Rattle.el.specs.Description.{sameRole}
 use Rattle.el.specs.Table.{Table, atoms}
 use lib.Dec.{eqb}
+use lib.Pow.{pow-lt}
 use borrow.Author.Tests.{eq-eqb, ne-eqb}
 use lib.ListN.{length-take}
 use lib.Seq.{length-take-le}
@@ -157,3 +159,9 @@ pub turn-spent : (p : Node → Bool) (b n : ℕ) (t : Table) (a : List ℕ) (k :
 turn-spent p b n t a k e =
     let f = remaining-first sameRole t a k in
     ap (scan p (b - n) n) (f .1) ∙ scan-spent p (b - n) n (take k a) (f .0) (omega arith)
+
+----------------------------------------------------------------------------------------------------
+-- The last set number
+
+pub power-fits : (n : ℕ) → n < 32 → 1 * 2 ^ n % 4294967296 ≡ 2 ^ n
+power-fits n h = ap (λ (k : ℕ). k % 4294967296) (one-mul (2 ^ n)) ∙ mod-eq-of-lt (pow-lt h)

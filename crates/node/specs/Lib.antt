@@ -1,0 +1,5 @@
+pub mod Node
+pub mod MaskLaws
+pub mod CodeLaws
+pub mod SquareLaws
+pub mod ReadyLaws

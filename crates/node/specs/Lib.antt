@@ -3,3 +3,4 @@ pub mod MaskLaws
 pub mod CodeLaws
 pub mod SquareLaws
 pub mod ReadyLaws
+pub mod LineLaws

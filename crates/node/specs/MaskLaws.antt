@@ -79,11 +79,11 @@ pub no-bits : (n : ℕ) → ((y : ℕ) → bit y n ≡ false) → n ≡ 0
 no-bits =
     bin-ind (λ (n : ℕ). ((y : ℕ) → bit y n ≡ false) → n ≡ 0) (λ f. refl)
     (λ n ih f.
-      let h : n / 2 ≡ 0 = ih (λ y. sym (bit-half y n) ∙ f (suc y)) in
-      let o : n % 2 ≡ 1 → ⊥ = eqb-false (n % 2) 1 (sym (bit-odd n) ∙ f 0) in
-      let l : n % 2 < 2 = omega arith in
-      let z : n % 2 ≡ 0 = even (n % 2) l o in
-      omega arith)
+    let h : n / 2 ≡ 0 = ih (λ y. sym (bit-half y n) ∙ f (suc y)) in
+    let o : n % 2 ≡ 1 → ⊥ = eqb-false (n % 2) 1 (sym (bit-odd n) ∙ f 0) in
+    let l : n % 2 < 2 = omega arith in
+    let z : n % 2 ≡ 0 = even (n % 2) l o in
+    omega arith)
   where
     even : (m : ℕ) → m < 2 → (m ≡ 1 → ⊥) → m ≡ 0
     even m h f = omega arith

@@ -4,6 +4,7 @@
 --   Clean sets         == a variable that is not chosen has the empty set
 --   Masks p m          == the bits of the mask m are the numbers that pass p
 --   isAmong y l        == y is among the numbers of l
+--   leftTo rows l i y  == the variable y stands in one of the first i left entries of the line l, fillers included
 --   dependsSet t s y   == a variable with the set number s depends directly on y
 --   dependsTo t s k y  == the same over the first k restrictions
 --   namesVariable b y  == the code b writes the variable y
@@ -25,9 +26,9 @@ use Prim.Native.Nat.{ℕ, _+_, _-_, _≤_, _<_}
 use lib.Dec.{T, eqb, leb}
 use lib.ListN.{length, getD, take}
 use Rattle.el.specs.Test.{anyBelow, allBelow, anyOf, everyOf, bit}
-use Rattle.el.specs.Table.{Entry, Table, rowAt, declared}
+use Rattle.el.specs.Table.{Entry, Row, Line, Table, rowAt, declared}
 use Rattle.el.specs.Assignment.{isVariable, path, reaches}
-use Rattle.el.specs.Walk.{Node, settled}
+use Rattle.el.specs.Walk.{Node, entriesVariables, settled}
 use Rattle.table.specs.Code.{entryOf}
 use Rattle.table.specs.Reading.{byteAt}
 use Rattle.node.specs.declared.Sets.{Sets}
@@ -44,6 +45,9 @@ Masks p m = (y : ℕ) → bit y m ≡ p y
 
 unfoldable pub isAmong : List ℕ → ℕ → Bool
 isAmong l y = anyOf (λ x. eqb x y) l
+
+unfoldable pub leftTo : List Row → Line → ℕ → ℕ → Bool
+leftTo rows l i = isAmong (entriesVariables rows (take i (l .left)))
 
 -- "X depends directly on Y if a restriction with filler Y is in X's set."
 unfoldable pub dependsTo : Table → ℕ → ℕ → ℕ → Bool

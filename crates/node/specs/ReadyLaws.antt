@@ -1,6 +1,6 @@
 -- Laws of readiness: the variables of a line as a mask, and whether they and what they reach are chosen.
 --
---   entries-start, entries-more, line-whole == the variables of a line, entry by entry
+--   left-start, left-more, line-whole == the variables of a line, entry by entry
 --   every-among, among-every == every number of a list passes a test
 --   reached-start, reached-more, reached-skip, reached-whole == what the variables of a mask lead to, variable by variable
 --   ready-not          == a variable of the mask is not chosen
@@ -16,7 +16,7 @@ use native.Mathlib.Decide.{ℕ-discrete, decLt}
 use borrow.Author.Tests.{eq-eqb}
 use lib.Dec.{T, eqb, ltb, eqb→eq, eqb-refl, ltb→lt, lt→ltb, T-not, not-T}
 use lib.ListN.{length, getD, take}
-use lib.Seq.{take-suc, take-length}
+use lib.Seq.{take-suc, take-all}
 use lib.Bits.{bitOr}
 use Rattle.el.specs.Test.{anyBelow, allBelow, anyOf, everyOf, bit}
 use Rattle.el.specs.TestLaws.{is-true, is-false, true-is, false-not, same-test, or-left, or-right, or-cases, and-make, and-left, and-right, anyBelow-hit, anyBelow-found, anyBelow-next, allBelow-all, allBelow-at, anyOf-append}
@@ -24,7 +24,7 @@ use Rattle.el.specs.Table.{Entry, constant, Row, Line, Table, declared}
 use Rattle.el.specs.Assignment.{depends, reaches}
 use Rattle.el.specs.ReachLaws.{reaches-declared, reaches-means}
 use Rattle.el.specs.Walk.{Node, chosen, entryVariables, entriesVariables, lineVariables, settled}
-use Rattle.node.specs.Node.{Masks, isAmong, rowOf, Shows, reachedTo, SaysReady}
+use Rattle.node.specs.Node.{Masks, isAmong, leftTo, rowOf, Shows, reachedTo, SaysReady}
 use Rattle.node.specs.MaskLaws.{masks-none, masks-or, masks-same, high-none, none-high}
 use Rattle.node.specs.CodeLaws.{or-none}
 
@@ -49,29 +49,30 @@ module _ (rows : List Row) where
   unfolding isAmong
   among-append l m y = anyOf-append (λ x. eqb x y) l m
 
-  module _ (left : List Entry) where
-    pub entries-start : Masks (isAmong (entriesVariables rows (take 0 left))) 0
-    unfolding isAmong anyOf
-    entries-start = masks-none
+  module _ (l : Line) where
+    pub left-start : Masks (leftTo rows l 0) 0
+    unfolding leftTo isAmong anyOf
+    left-start = masks-none
 
-    pub entries-more : (i m a : ℕ) → i < length left → Masks (isAmong (entriesVariables rows (take i left))) m
-        → Masks (isAmong (entryVariables rows (getD left i (constant 0)))) a → Masks (isAmong (entriesVariables rows (take (i + 1) left))) (bitOr m a)
-    entries-more i m a h f g y =
-        masks-or (isAmong (entriesVariables rows (take i left))) (isAmong (entryVariables rows (getD left i (constant 0)))) m a f g y
-        ∙ sym (ap (λ (k : ℕ). isAmong (entriesVariables rows (take k left)) y) (add-one i)
-          ∙ ap (λ (es : List Entry). isAmong (entriesVariables rows es) y) (take-suc left i (constant 0) h)
-          ∙ ap (λ (l : List ℕ). isAmong l y) (entries-append (take i left) (getD left i (constant 0) ∷ []))
-          ∙ among-append (entriesVariables rows (take i left)) (entryVariables rows (getD left i (constant 0)) ++ []) y
-          ∙ ap (λ (l : List ℕ). isAmong (entriesVariables rows (take i left)) y || isAmong l y) (append-nil (entryVariables rows (getD left i (constant 0)))))
+    module _ (p : ℕ) (count : length (l .left) ≡ p) (i m a : ℕ) (f : Masks (leftTo rows l i) m) where
+      pub left-more : i < p → Masks (isAmong (entryVariables rows (getD (l .left) i (constant 0)))) a → Masks (leftTo rows l (i + 1)) (bitOr m a)
+      unfolding leftTo
+      left-more h g y =
+          let x = getD (l .left) i (constant 0) in
+          masks-or (leftTo rows l i) (isAmong (entryVariables rows x)) m a f g y
+          ∙ sym (ap (λ (k : ℕ). isAmong (entriesVariables rows (take k (l .left))) y) (add-one i)
+          ∙ ap (λ (es : List Entry). isAmong (entriesVariables rows es) y) (take-suc (l .left) i (constant 0) (omega arith))
+          ∙ ap (λ (r : List ℕ). isAmong r y) (entries-append (take i (l .left)) (x ∷ []))
+          ∙ among-append (entriesVariables rows (take i (l .left))) (entryVariables rows x ++ []) y
+          ∙ ap (λ (r : List ℕ). leftTo rows l i y || isAmong r y) (append-nil (entryVariables rows x)))
 
-  pub line-whole : (l : Line) (p m a : ℕ) → p ≡ length (l .left) → Masks (isAmong (entriesVariables rows (take p (l .left)))) m
-      → Masks (isAmong (entryVariables rows (l .right))) a → Masks (isAmong (lineVariables rows l)) (bitOr m a)
-  unfolding lineVariables
-  line-whole l p m a e f g y =
-      masks-or (isAmong (entriesVariables rows (take p (l .left)))) (isAmong (entryVariables rows (l .right))) m a f g y
-      ∙ sym (among-append (entriesVariables rows (l .left)) (entryVariables rows (l .right)) y
-        ∙ ap (λ (es : List Entry). isAmong (entriesVariables rows es) y || isAmong (entryVariables rows (l .right)) y)
-          (sym (ap (λ (k : ℕ). take k (l .left)) e ∙ take-length (l .left))))
+      pub line-whole : i ≤ p → p ≤ i → Masks (isAmong (entryVariables rows (l .right))) a → Masks (isAmong (lineVariables rows l)) (bitOr m a)
+      unfolding leftTo lineVariables
+      line-whole h k g y =
+          masks-or (leftTo rows l i) (isAmong (entryVariables rows (l .right))) m a f g y
+          ∙ sym (among-append (entriesVariables rows (l .left)) (entryVariables rows (l .right)) y
+          ∙ ap (λ (es : List Entry). isAmong (entriesVariables rows es) y || isAmong (entryVariables rows (l .right)) y)
+          (sym (take-all i (l .left) (omega arith))))
 
 ----------------------------------------------------------------------------------------------------
 -- Every number of a list
@@ -105,9 +106,9 @@ module _ (t : Table) (s : Node) where
   unfolding settled chosen
   settled-reached known x y u r =
       go (or-cases (not (reaches t s x y)) (ltb y (length s))
-        (allBelow-at (t .variables) y (λ y. not (reaches t s x y) || ltb y (length s))
-          (and-right (ltb x (length s)) (allBelow (t .variables) (λ y. not (reaches t s x y) || ltb y (length s))) u)
-          (reaches-declared t known s (reaches-means t known s x y .0 r))))
+      (allBelow-at (t .variables) y (λ y. not (reaches t s x y) || ltb y (length s))
+      (and-right (ltb x (length s)) (allBelow (t .variables) (λ y. not (reaches t s x y) || ltb y (length s))) u)
+      (reaches-declared t known s (reaches-means t known s x y .0 r))))
     where
       go : T (not (reaches t s x y)) ⊎ T (ltb y (length s)) → y < length s
       go (inl n) = absurd (T-not (reaches t s x y) n r)
@@ -135,7 +136,7 @@ module _ (rows : List ℕ) (m : ℕ) where
     next : (y : ℕ) → reachedTo rows m (x + 1) y ≡ reachedTo rows m x y || (bit x m && bit y (rowOf rows x))
     unfolding reachedTo
     next y = ap (λ (p : Bool). bit y m || p) (anyBelow-next x (λ i. bit i m && bit y (rowOf rows i)))
-      ∙ sym (or-assoc (bit y m) (anyBelow x (λ i. bit i m && bit y (rowOf rows i))) (bit x m && bit y (rowOf rows x)))
+        ∙ sym (or-assoc (bit y m) (anyBelow x (λ i. bit i m && bit y (rowOf rows i))) (bit x m && bit y (rowOf rows x)))
 
     pub reached-more : bit x m ≡ true → Masks (reachedTo rows m (x + 1)) (bitOr a (rowOf rows x))
     reached-more b y =
@@ -150,7 +151,7 @@ module _ (rows : List ℕ) (n m : ℕ) where
   unfolding SaysReady
   ready-not not-low t s l known few shows is =
       sym (is-false (everyOf (settled t s) l) (λ u. not-low (none-high m n (λ y h.
-        is-false (bit y m) (λ b. past y h (settled-chosen t s y (every-among (settled t s) l y u (subst T (is y) b))))))))
+      is-false (bit y m) (λ b. past y h (settled-chosen t s y (every-among (settled t s) l y u (subst T (is y) b))))))))
     where
       past : (y : ℕ) → n ≤ y → y < length s → ⊥
       past y h k = omega arith
@@ -179,10 +180,10 @@ module _ (rows : List ℕ) (n m : ℕ) where
       fits e x w =
           settled-make t s x (let h : x < n = own x w in omega arith)
           (λ y r.
-            let h : y < n = below a y e (subst T (sym (all y)) (or-right (bit y m) (anyBelow n (λ x. bit x m && bit y (rowOf rows x)))
-              (anyBelow-hit n x (λ x. bit x m && bit y (rowOf rows x)) (own x w)
-                (and-make (bit x m) (bit y (rowOf rows x)) (subst T (sym (is x)) w) (subst T (sym (shows x y)) r))))) in
-            omega arith)
+          let h : y < n = below a y e (subst T (sym (all y)) (or-right (bit y m) (anyBelow n (λ x. bit x m && bit y (rowOf rows x)))
+          (anyBelow-hit n x (λ x. bit x m && bit y (rowOf rows x)) (own x w)
+          (and-make (bit x m) (bit y (rowOf rows x)) (subst T (sym (is x)) w) (subst T (sym (shows x y)) r))))) in
+          omega arith)
 
       inside : T (everyOf (settled t s) l) → (y : ℕ) → T (reachedTo rows m n y) → y < length s
       inside u y b = go (or-cases (bit y m) (anyBelow n (λ x. bit x m && bit y (rowOf rows x))) b)

@@ -2,7 +2,7 @@
 --
 --   depends-start, depends-more, depends-skip == the restrictions one by one
 --   depends-whole      == all of them
---   direct-start, direct-more, direct-whole == the rows of direct dependences one by one
+--   direct-start, direct-more, direct-whole, direct-node == the rows of direct dependences one by one
 --   Half d j n x rows  == the rows below x have j as an inner variable, the others not yet
 --   half-start, half-more, half-skip, half-whole == the rows one by one
 --   Closing rows j n x after, closing-.. == the same for any dependences, with the rows that stay
@@ -54,7 +54,7 @@ module _ (t : Table) (s : ℕ) where
     depends-skip i at b y =
         is y
         ∙ sym (next y ∙ ap (λ (p : Bool). dependsTo t s k y || (p && isVariable y (rowAt (t .rows) k .filler))) (ap (λ (j : ℕ). bit j s) (sym at) ∙ b)
-          ∙ or-none (dependsTo t s k y))
+        ∙ or-none (dependsTo t s k y))
 
   pub depends-whole : (k m : ℕ) → k ≡ length (t .rows) → Masks (dependsTo t s k) m → Masks (dependsSet t s) m
   unfolding dependsSet
@@ -125,6 +125,14 @@ module _ (d : ℕ → ℕ → Bool) where
       go : Dec (x < n) → bit y (rowOf rows x) ≡ d x y
       go (yes h) = f .0 x h y
       go (no h) = ap (bit y) (f .1 x (omega arith)) ∙ bit-none y ∙ sym (none x y (omega arith))
+
+pub direct-node : (t : Table) (sets : Sets) (x : ℕ) (rows : List ℕ) → sets .chosen ≤ length (sets .set) → Clean sets → x ≤ sets .chosen → sets .chosen ≤ x
+    → DirectTo (λ i y. dependsSet t (getD (sets .set) i 0) y) x rows → Direct (depends t (nodeOf sets)) rows
+unfolding Direct Clean
+direct-node t sets x rows few clean h k f i y =
+    direct-whole (λ i y. dependsSet t (getD (sets .set) i 0) y) x rows f
+    (λ j z l. ap (λ (s : ℕ). dependsSet t s z) (clean j (omega arith)) ∙ depends-empty t z) i y
+    ∙ sym (depends-of t (nodeOf sets) i y ∙ ap (λ (s : ℕ). dependsSet t s y) (set-node sets few clean i))
 
 ----------------------------------------------------------------------------------------------------
 -- One more inner variable
@@ -311,7 +319,7 @@ module _ (t : Table) (s : Assignment) (few : length s ≤ t .variables) where
       same-test (allBelow (length s) (λ x. not (bit x (rowOf rows x)))) (allBelow (t .variables) (λ x. not (reaches t s x x)))
       (λ u. allBelow-all (t .variables) (λ x. not (reaches t s x x)) (λ x h. go x u (decLt x (length s))))
       (λ u. allBelow-all (length s) (λ x. not (bit x (rowOf rows x)))
-        (λ x h. subst (λ (p : Bool). T (not p)) (sym (f x x)) (allBelow-at (t .variables) x (λ x. not (reaches t s x x)) u (omega arith))))
+      (λ x h. subst (λ (p : Bool). T (not p)) (sym (f x x)) (allBelow-at (t .variables) x (λ x. not (reaches t s x x)) u (omega arith))))
     where
       go : (x : ℕ) → T (allBelow (length s) (λ x. not (bit x (rowOf rows x)))) → Dec (x < length s) → T (not (reaches t s x x))
       go x u (yes h) = subst (λ (p : Bool). T (not p)) (f x x) (allBelow-at (length s) x (λ x. not (bit x (rowOf rows x))) u h)

@@ -67,11 +67,18 @@ loop-less c = search needs
 
 -- src/lib.rt:89:5
 loop-again : tie.Need-loop-again Inv-loop μ-loop
-loop-again c = ?
+loop-again c = (
+  omega arith,
+  ⊎-elim (λ w. ap length (w .1) ∙ simp length-set (c .before .before .loop .inv .1)) (λ w. ap length (w .1) ∙ c .before .before .loop .inv .1) (c .if1 .came),
+  ⊎-elim
+      (λ w. subst (Closing _ _ _ _) (sym (w .1)) (closing-more _ _ _ _ _ (omega arith) (omega arith) (c .before .before .loop .inv .2) (omega arith) (bit-is _ _ (w .0 .taken))))
+      (λ w. subst (Closing _ _ _ _) (sym (w .1)) (closing-skip _ _ _ _ _ (omega arith) (omega arith) (c .before .before .loop .inv .2) (bit-is-not _ _ (w .0 .left))))
+      (c .if1 .came),
+)
 
 -- src/lib.rt:82:1
 returns : tie.Need-returns Inv-loop μ-loop
-returns c = ?
+returns c = closing-whole _ _ _ _ _ (c .before .loop .inv .0) (c .loop-test .left) (c .before .loop .inv .2)
 
 pub close-step-spec : {M : Type 1} → statement M
 close-step-spec =

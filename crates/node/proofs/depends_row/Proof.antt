@@ -53,11 +53,13 @@ loop-less c = search needs
 
 -- src/lib.rt:54:5
 loop-again : tie.Need-loop-again Inv-loop μ-loop
-loop-again c = 
-    (omega arith, λ y. ⊎-elim
+loop-again c = (
+  omega arith,
+  λ y. ⊎-elim
       (λ w. ap (bit y) (w .2) ∙ depends-more _ _ _ _ (c .before .before .loop .inv .1) _ _ (omega arith) (bit-is _ _ (w .0 .taken)) (w .1 .ensures) y)
       (λ w. ap (bit y) (w .1) ∙ depends-skip _ _ _ _ (c .before .before .loop .inv .1) _ (omega arith) (bit-is-not _ _ (w .0 .left)) y)
-      (c .if1 .came))
+      (c .if1 .came),
+)
 
 -- src/lib.rt:47:1
 returns : tie.Need-returns Inv-loop μ-loop

@@ -52,11 +52,14 @@ loop-less c = search needs
 
 -- src/lib.rt:185:5
 loop-again : tie.Need-loop-again Inv-loop μ-loop
-loop-again c = 
-    (omega arith, search needs, λ y. ⊎-elim
+loop-again c = (
+  omega arith,
+  search needs,
+  λ y. ⊎-elim
       (λ w. ap (bit y) (w .1) ∙ reached-more _ _ _ _ (c .before .before .loop .inv .2) (bit-is _ _ (w .0 .taken)) y)
       (λ w. ap (bit y) (w .1) ∙ reached-skip _ _ _ _ (c .before .before .loop .inv .2) (bit-is-not _ _ (w .0 .left)) y)
-      (c .if1 .came))
+      (c .if1 .came),
+)
 
 -- src/lib.rt:178:1
 returns : tie.Need-returns Inv-loop μ-loop

@@ -1,6 +1,49 @@
-// What the bytes say: the codes, the reader and the line call.
+// What the bytes say: the codes and the reader.
 ghost use mathlib.Core.Path.{_≡_};
-ghost use Rattle.table.specs.Code.{kindOf};
+ghost use Prim.Native.Nat.{_≤_};
+ghost use lib.Dec.{T};
+ghost use lib.ListN.{length};
+ghost use Rattle.table.specs.Code.{kindOf, fillerOf, entryOf};
+ghost use Rattle.table.specs.Reading.{byteAt, marked, versionOne, headerOf, readHeader, readRow, readRows, readEntry, readEntries, readLine, readLines, readBody, reading, isReadable};
+ghost use Rattle.table.specs.Step.{isSome, stepOf, verdictOf};
+ghost use Rattle.table.specs.Layout.{lineStart};
+
+// The bytes that hold the five counts, and the length of the header.
+pub const CONSTANTS: usize = 5;
+
+pub const ROLES: usize = 6;
+
+pub const VARIABLES: usize = 7;
+
+pub const RESTRICTIONS: usize = 8;
+
+pub const LINES: usize = 9;
+
+pub const HEADER: usize = 10;
+
+// The bounds.
+pub const MAX_ATOMS: usize = 24;
+
+pub const MAX_ROLES: u8 = 16;
+
+pub const MAX_VARIABLES: u8 = 12;
+
+pub const MAX_LINES: u8 = 64;
+
+pub const MAX_LEFT: usize = 8;
+
+// The numbers of the refusals.
+pub const ENDS_EARLY: u32 = 1;
+
+pub const WRONG_MARK: u32 = 2;
+
+pub const WRONG_VERSION: u32 = 3;
+
+pub const OVER_BOUND: u32 = 4;
+
+pub const NOT_ALLOWED: u32 = 5;
+
+pub const BYTES_AFTER: u32 = 6;
 
 // What a code byte stands for, by its range alone.
 pub enum Kind {
@@ -9,4 +52,268 @@ pub enum Kind {
     Restriction(u8),
     Variable(u8),
     Other,
+}
+
+// A step of the reader: the place after what was read, or the number and place of a refusal.
+pub enum Step {
+    Next(usize),
+    Stop(u32, usize),
+}
+
+// The verdict on a whole table: the number and place of a refusal, or readable.
+pub enum Verdict {
+    Refused(u32, usize),
+    Readable,
+}
+
+pub fn kind_of(code: u8) -> Kind
+    ensures { λ r. ⌜ r ≡ kindOf code ⌝ }
+{
+    match code {
+        0x00 => Kind::Top,
+        0x20..=0x3F => Kind::Constant(code - 0x20),
+        0x40..=0x5F => Kind::Restriction(code - 0x40),
+        0x60.. => Kind::Variable(code - 0x60),
+        _ => Kind::Other,
+    }
+}
+
+// Is the code a filler, where c constants and v variables are declared?
+pub fn filler_ok(code: u8, c: u8, v: u8) -> bool
+    ensures { λ r. ⌜ r ≡ isSome (fillerOf c v code) ⌝ }
+{
+    match kind_of(code) {
+        Kind::Top => true,
+        Kind::Constant(k) => k < c,
+        Kind::Restriction(_) => false,
+        Kind::Variable(k) => k < v,
+        Kind::Other => false,
+    }
+}
+
+// Is the code a left or right entry, where c constants, e restrictions and v variables are declared?
+pub fn entry_ok(code: u8, c: u8, e: u8, v: u8) -> bool
+    ensures { λ r. ⌜ r ≡ isSome (entryOf c e v code) ⌝ }
+{
+    match kind_of(code) {
+        Kind::Top => false,
+        Kind::Constant(k) => k < c,
+        Kind::Restriction(k) => k < e,
+        Kind::Variable(k) => k < v,
+        Kind::Other => false,
+    }
+}
+
+fn wide(x: u8) -> usize
+    ensures { λ r. ⌜ r ≡ x ⌝ }
+{
+    x as usize
+}
+
+fn has_mark(table: &[u8]) -> bool
+    requires { ⌜ 10 ≤ length (now table) ⌝ }
+    ensures { λ r. ⌜ r ≡ marked (now (table .entry)) ⌝ }
+{
+    table[0] == 0x56 && (table[1] == 0x4F && table[2] == 0x43)
+}
+
+fn is_version_one(table: &[u8]) -> bool
+    requires { ⌜ 10 ≤ length (now table) ⌝ }
+    ensures { λ r. ⌜ r ≡ versionOne (now (table .entry)) ⌝ }
+{
+    table[3] == 1 && table[4] == 0
+}
+
+// Bytes 0 to 9.
+pub fn read_header(table: &[u8]) -> Step
+    ensures { λ r. ⌜ r ≡ stepOf (readHeader (now (table .entry))) ⌝ }
+{
+    if table.len() < HEADER {
+        return Step::Stop(ENDS_EARLY, table.len());
+    }
+    if !has_mark(table) {
+        return Step::Stop(WRONG_MARK, 0);
+    }
+    if !is_version_one(table) {
+        return Step::Stop(WRONG_VERSION, 3);
+    }
+    if MAX_ROLES < table[ROLES] {
+        return Step::Stop(OVER_BOUND, ROLES);
+    }
+    if MAX_VARIABLES < table[VARIABLES] {
+        return Step::Stop(OVER_BOUND, VARIABLES);
+    }
+    if MAX_ATOMS < wide(table[CONSTANTS]) + wide(table[RESTRICTIONS]) {
+        return Step::Stop(OVER_BOUND, RESTRICTIONS);
+    }
+    if MAX_LINES < table[LINES] {
+        return Step::Stop(OVER_BOUND, LINES);
+    }
+    Step::Next(HEADER)
+}
+
+// The restriction row that begins at the byte `at`.
+pub fn read_row(table: &[u8], at: usize) -> Step
+    requires { ⌜ 10 ≤ length (now table) ⌝ }
+    ensures { λ r. ⌜ r ≡ stepOf (readRow (now (table .entry)) (headerOf (now (table .entry))) at) ⌝ }
+{
+    if table.len() <= at {
+        return Step::Stop(ENDS_EARLY, table.len());
+    }
+    if table[ROLES] <= table[at] {
+        return Step::Stop(NOT_ALLOWED, at);
+    }
+    if table.len() <= at + 1 {
+        return Step::Stop(ENDS_EARLY, table.len());
+    }
+    if !filler_ok(table[at + 1], table[CONSTANTS], table[VARIABLES]) {
+        return Step::Stop(NOT_ALLOWED, at + 1);
+    }
+    Step::Next(at + 2)
+}
+
+// `count` rows from the byte `from` on.
+pub fn read_rows(table: &[u8], count: usize, from: usize) -> Step
+    requires { ⌜ 10 ≤ length (now table) ⌝ }
+    ensures { λ r. ⌜ r ≡ stepOf (readRows (now (table .entry)) (headerOf (now (table .entry))) count from) ⌝ }
+{
+    let mut at = from;
+    let mut k = 0;
+    while k < count {
+        match read_row(table, at) {
+            Step::Next(next) => {
+                at = next;
+            }
+            Step::Stop(number, place) => {
+                return Step::Stop(number, place);
+            }
+        }
+        k += 1;
+    }
+    Step::Next(at)
+}
+
+// The entry at the byte `at`.
+pub fn read_entry(table: &[u8], at: usize) -> Step
+    requires { ⌜ 10 ≤ length (now table) ⌝ }
+    ensures { λ r. ⌜ r ≡ stepOf (readEntry (now (table .entry)) (headerOf (now (table .entry))) at) ⌝ }
+{
+    if table.len() <= at {
+        return Step::Stop(ENDS_EARLY, table.len());
+    }
+    if !entry_ok(
+        table[at],
+        table[CONSTANTS],
+        table[RESTRICTIONS],
+        table[VARIABLES],
+    ) {
+        return Step::Stop(NOT_ALLOWED, at);
+    }
+    Step::Next(at + 1)
+}
+
+// `count` entries from the byte `from` on.
+pub fn read_entries(table: &[u8], count: usize, from: usize) -> Step
+    requires { ⌜ 10 ≤ length (now table) ⌝ }
+    ensures { λ r. ⌜ r ≡ stepOf (readEntries (now (table .entry)) (headerOf (now (table .entry))) count from) ⌝ }
+{
+    let mut at = from;
+    let mut i = 0;
+    while i < count {
+        match read_entry(table, at) {
+            Step::Next(next) => {
+                at = next;
+            }
+            Step::Stop(number, place) => {
+                return Step::Stop(number, place);
+            }
+        }
+        i += 1;
+    }
+    Step::Next(at)
+}
+
+// The line that begins at the byte `at`: an over-large left count is refused before its entries are read.
+pub fn read_line(table: &[u8], at: usize) -> Step
+    requires { ⌜ 10 ≤ length (now table) ⌝ }
+    ensures { λ r. ⌜ r ≡ stepOf (readLine (now (table .entry)) (headerOf (now (table .entry))) at) ⌝ }
+{
+    if table.len() <= at {
+        return Step::Stop(ENDS_EARLY, table.len());
+    }
+    let p = wide(table[at]);
+    if MAX_LEFT < p {
+        return Step::Stop(OVER_BOUND, at);
+    }
+    match read_entries(table, p, at + 1) {
+        Step::Next(next) => read_entry(table, next),
+        Step::Stop(number, place) => Step::Stop(number, place),
+    }
+}
+
+// `count` lines from the byte `from` on.
+pub fn read_lines(table: &[u8], count: usize, from: usize) -> Step
+    requires { ⌜ 10 ≤ length (now table) ⌝ }
+    ensures { λ r. ⌜ r ≡ stepOf (readLines (now (table .entry)) (headerOf (now (table .entry))) count from) ⌝ }
+{
+    let mut at = from;
+    let mut n = 0;
+    while n < count {
+        match read_line(table, at) {
+            Step::Next(next) => {
+                at = next;
+            }
+            Step::Stop(number, place) => {
+                return Step::Stop(number, place);
+            }
+        }
+        n += 1;
+    }
+    Step::Next(at)
+}
+
+// The rows and the lines, and nothing after them.
+pub fn read_body(table: &[u8]) -> Step
+    requires { ⌜ 10 ≤ length (now table) ⌝ }
+    ensures { λ r. ⌜ r ≡ stepOf (readBody (now (table .entry)) (headerOf (now (table .entry)))) ⌝ }
+{
+    match read_rows(table, wide(table[RESTRICTIONS]), HEADER) {
+        Step::Next(next) => match read_lines(table, wide(table[LINES]), next) {
+            Step::Next(end) => {
+                if end < table.len() {
+                    return Step::Stop(BYTES_AFTER, end);
+                }
+                Step::Next(end)
+            }
+            Step::Stop(number, place) => Step::Stop(number, place),
+        },
+        Step::Stop(number, place) => Step::Stop(number, place),
+    }
+}
+
+// The whole table.
+pub fn check(table: &[u8]) -> Verdict
+    ensures { λ r. ⌜ r ≡ verdictOf (reading (now (table .entry))) ⌝ }
+{
+    match read_header(table) {
+        Step::Next(_) => match read_body(table) {
+            Step::Next(_) => Verdict::Readable,
+            Step::Stop(number, place) => Verdict::Refused(number, place),
+        },
+        Step::Stop(number, place) => Verdict::Refused(number, place),
+    }
+}
+
+// The byte where line n of a readable table begins; of as many lines as there are, the table's end.
+pub fn line_start(table: &[u8], n: usize) -> usize
+    requires { ⌜ T (isReadable (reading (now table))) × (n ≤ byteAt (now table) 9) ⌝ }
+    ensures { λ r. ⌜ r ≡ lineStart (now (table .entry)) n ⌝ }
+{
+    let mut at = HEADER + 2 * wide(table[RESTRICTIONS]);
+    let mut i = 0;
+    while i < n {
+        at = at + wide(table[at]) + 2;
+        i += 1;
+    }
+    at
 }

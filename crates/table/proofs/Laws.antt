@@ -1,0 +1,487 @@
+-- Laws that carry the reader's code to the reading's definition.
+--
+--   kind-..                      == the kind of a code in each range
+--   filler-.., entry-..          == whether a code is a filler, an entry, by its kind
+--   stop-if, pass-if             == a refusal where its test passes, and past it
+--   then-stop, then-next         == a step after a step
+--   turn-start, turn-stop, turn-next, turn-end == the turns of a loop over many of a kind
+--   mark-is, version-is          == the tests of the mark and the version
+--   header-.., row-.., entry-.., line-.., body-.., check-.. == each answer of the function so named
+--   start-..                     == the loop over the places where lines begin
+use mathlib.Core.Path.{_≡_, refl, sym, ap, subst, _∙_}
+use mathlib.Core.Bool.{Bool, true, false, _&&_, not, cond, true≢false}
+use mathlib.Core.List.{List, [], _∷_}
+use mathlib.Core.Option.{Option, none, some}
+use Prim.Native.Nat.{ℕ, zero, suc, _+_, _*_, _-_, _≤_, _<_}
+use native.Mathlib.Omega.{arith}
+use native.Mathlib.Numerals.{add-one}
+use lib.Dec.{T, eqb, leb, ltb}
+use lib.ListN.{length, getD}
+use borrow.Author.Tests.{lt-ltb, le-ltb, le-leb, lt-leb, eq-eqb, ne-eqb}
+use Rattle.el.specs.Table.{Filler, topF, constantF, variableF, Entry, constant, restriction, variable, Row, Line, Table}
+use Rattle.table.specs.declared.Kind.{Kind}
+use Rattle.table.specs.declared.Kind.the-variants.{Top, Constant, Restriction, Variable, Other}
+use Rattle.table.specs.declared.Step.{Step}
+use Rattle.table.specs.declared.Step.the-variants.{Next, Stop}
+use Rattle.table.specs.declared.Verdict.{Verdict}
+use Rattle.table.specs.declared.Verdict.the-variants.{Refused, Readable}
+use Rattle.table.specs.Code.{kindOf, within, fillerOfKind, fillerOf, entryOfKind, entryOf}
+use Rattle.table.specs.Reading.{Read, refused, got, refuseIf, andThen, orRefused, byteAt, missing, Header, headerOf, marked, versionOne, readHeader, readRow, readRows, readEntry, readEntries, readLine, readLines, readBody, Reading, refusal, readable, whole, fromHeader, reading, isReadable, maxAtoms, maxRoles, maxVariables, maxLines, maxLeft}
+use Rattle.table.specs.Step.{isSome, stepOf, verdictOf}
+use Rattle.table.specs.Layout.{lineStart, Layout}
+use Rattle.table.specs.LayoutLaws.{header-read, layout}
+
+------------------------------------------------------------------ codes
+
+module _ (b : ℕ) where
+  pub kind-top : b ≡ 0 → Top ≡ kindOf b
+  unfolding kindOf
+  kind-top h = simp (eq-eqb b 0 h)
+
+  pub kind-constant : 0x20 ≤ b → b ≤ 0x3F → Constant (b - 0x20) ≡ kindOf b
+  unfolding kindOf
+  kind-constant h l = let n : b ≡ 0 → ⊥ = omega arith in simp (ne-eqb b 0 n, le-leb 0x20 b h, le-leb b 0x3F l)
+
+  pub kind-restriction : 0x40 ≤ b → b ≤ 0x5F → Restriction (b - 0x40) ≡ kindOf b
+  unfolding kindOf
+  kind-restriction h l =
+      let n : b ≡ 0 → ⊥ = omega arith in
+      let m : 0x20 ≤ b = omega arith in
+      let k : 0x3F < b = omega arith in
+      simp (ne-eqb b 0 n, le-leb 0x20 b m, lt-leb b 0x3F k, le-leb 0x40 b h, le-leb b 0x5F l)
+
+  pub kind-variable : 0x60 ≤ b → Variable (b - 0x60) ≡ kindOf b
+  unfolding kindOf
+  kind-variable h =
+      let n : b ≡ 0 → ⊥ = omega arith in
+      let i : 0x20 ≤ b = omega arith in
+      let j : 0x3F < b = omega arith in
+      let k : 0x40 ≤ b = omega arith in
+      let m : 0x5F < b = omega arith in
+      simp (ne-eqb b 0 n, le-leb 0x20 b i, lt-leb b 0x3F j, le-leb 0x40 b k, lt-leb b 0x5F m, le-leb 0x60 b h)
+
+  pub kind-other : (b ≡ 0 → ⊥) → b < 0x20 → Other ≡ kindOf b
+  unfolding kindOf
+  kind-other n h =
+      let k : b < 0x40 = omega arith in
+      let m : b < 0x60 = omega arith in
+      simp (ne-eqb b 0 n, lt-leb 0x20 b h, lt-leb 0x40 b k, lt-leb 0x60 b m)
+
+pub some-within : {A : Type 0} (k n : ℕ) (a : A) → ltb k n ≡ isSome (within k n a)
+unfolding isSome within
+some-within k n a = go (ltb k n)
+  where
+    go : (t : Bool) → t ≡ isSome (cond t (some a) none)
+    go true = refl
+    go false = refl
+
+module _ (c v b : ℕ) where
+  pub filler-top : kindOf b ≡ Top → true ≡ isSome (fillerOf c v b)
+  unfolding fillerOf fillerOfKind isSome
+  filler-top e = rw e
+
+  pub filler-constant : (k : ℕ) → kindOf b ≡ Constant k → ltb k c ≡ isSome (fillerOf c v b)
+  unfolding fillerOf fillerOfKind
+  filler-constant k e = rw e (some-within k c (constantF k))
+
+  pub filler-restriction : (k : ℕ) → kindOf b ≡ Restriction k → false ≡ isSome (fillerOf c v b)
+  unfolding fillerOf fillerOfKind isSome
+  filler-restriction k e = rw e
+
+  pub filler-variable : (k : ℕ) → kindOf b ≡ Variable k → ltb k v ≡ isSome (fillerOf c v b)
+  unfolding fillerOf fillerOfKind
+  filler-variable k e = rw e (some-within k v (variableF k))
+
+  pub filler-other : kindOf b ≡ Other → false ≡ isSome (fillerOf c v b)
+  unfolding fillerOf fillerOfKind isSome
+  filler-other e = rw e
+
+module _ (c r v b : ℕ) where
+  pub entry-top : kindOf b ≡ Top → false ≡ isSome (entryOf c r v b)
+  unfolding entryOf entryOfKind isSome
+  entry-top e = rw e
+
+  pub entry-constant : (k : ℕ) → kindOf b ≡ Constant k → ltb k c ≡ isSome (entryOf c r v b)
+  unfolding entryOf entryOfKind
+  entry-constant k e = rw e (some-within k c (constant k))
+
+  pub entry-restriction : (k : ℕ) → kindOf b ≡ Restriction k → ltb k r ≡ isSome (entryOf c r v b)
+  unfolding entryOf entryOfKind
+  entry-restriction k e = rw e (some-within k r (restriction k))
+
+  pub entry-variable : (k : ℕ) → kindOf b ≡ Variable k → ltb k v ≡ isSome (entryOf c r v b)
+  unfolding entryOf entryOfKind
+  entry-variable k e = rw e (some-within k v (variable k))
+
+  pub entry-other : kindOf b ≡ Other → false ≡ isSome (entryOf c r v b)
+  unfolding entryOf entryOfKind isSome
+  entry-other e = rw e
+
+------------------------------------------------------------------ steps
+
+pub stop-if : {A : Type 0} (t : Bool) (n p : ℕ) (x : Read A) → t ≡ true → Stop n p ≡ stepOf (refuseIf t n p x)
+unfolding stepOf
+stop-if t n p x e = rw e
+
+pub pass-if : {A : Type 0} (t : Bool) (n p : ℕ) (x : Read A) (z : Step) → t ≡ false → z ≡ stepOf x → z ≡ stepOf (refuseIf t n p x)
+pass-if t n p x z e q = rw e q
+
+pub stop-code : {A : Type 0} (at : ℕ) (o : Option A) → isSome o ≡ false → Stop 5 at ≡ stepOf (orRefused at o)
+unfolding stepOf isSome
+stop-code at none e = refl
+stop-code at (some a) e = absurd (true≢false e)
+
+pub next-code : {A : Type 0} (at : ℕ) (o : Option A) → isSome o ≡ true → Next (at + 1) ≡ stepOf (orRefused at o)
+unfolding stepOf isSome
+next-code at none e = absurd (true≢false (sym e))
+next-code at (some a) e = refl
+
+next-stop : (at n p : ℕ) → Next at ≡ Stop n p → ⊥
+next-stop at n p q = let z : _≡_ {A = ℕ} 0 1 = cc in omega arith
+
+pub then-stop : {A B : Type 0} (x : Read A) (f : A → ℕ → Read B) (n p : ℕ) → stepOf x ≡ Stop n p → stepOf (andThen x f) ≡ Stop n p
+unfolding stepOf
+then-stop (refused m q) f n p e = e
+then-stop (got a at) f n p e = absurd (next-stop at n p e)
+
+pub then-next : {A B : Type 0} (x : Read A) (f : A → ℕ → Read B) (at : ℕ) (z : Step) → stepOf x ≡ Next at → ((a : A) → stepOf (f a at) ≡ z) → stepOf (andThen x f) ≡ z
+unfolding stepOf
+then-next (refused m q) f at z e g = absurd (next-stop at m q (sym e))
+then-next (got a end) f at z e g = let w : end ≡ at = cc in rw w (g a)
+
+pub then-last : {A B : Type 0} (x : Read A) (f : A → B) → stepOf (andThen x (λ a end. got (f a) end)) ≡ stepOf x
+unfolding stepOf
+then-last (refused n p) f = refl
+then-last (got a at) f = refl
+
+-- many of a kind, one after the other
+module _ {A : Type 0} (one : ℕ → Read A) (many : ℕ → ℕ → Read (List A))
+    (none-left : (at : ℕ) → many 0 at ≡ got [] at)
+    (one-more : (k at : ℕ) → many (suc k) at ≡ andThen (one at) (λ a next. andThen (many k next) (λ l end. got (a ∷ l) end))) where
+  pub turn-start : (count at : ℕ) → stepOf (many count at) ≡ stepOf (many (count - 0) at)
+  turn-start count at = ap (λ (k : ℕ). stepOf (many k at)) (let e : count ≡ count - 0 = omega arith in e)
+
+  pub turn-end : (count k at : ℕ) → count ≤ k → stepOf (many (count - k) at) ≡ Next at
+  unfolding stepOf
+  turn-end count k at h = ap (λ (k : ℕ). stepOf (many k at)) (let e : count - k ≡ 0 = omega arith in e) ∙ ap stepOf (none-left at)
+
+  fewer : (count k at : ℕ) → k < count → stepOf (many (count - k) at) ≡ stepOf (andThen (one at) (λ a next. andThen (many (count - (k + 1)) next) (λ l end. got (a ∷ l) end)))
+  fewer count k at h = ap (λ (k : ℕ). stepOf (many k at)) (let e : count - k ≡ suc (count - (k + 1)) = omega arith in e) ∙ ap stepOf (one-more (count - (k + 1)) at)
+
+  pub turn-stop : (count k at n p : ℕ) → k < count → stepOf (one at) ≡ Stop n p → stepOf (many (count - k) at) ≡ Stop n p
+  turn-stop count k at n p h q = fewer count k at h ∙ then-stop (one at) (λ a next. andThen (many (count - (k + 1)) next) (λ l end. got (a ∷ l) end)) n p q
+
+  pub turn-next : (count k at next : ℕ) → k < count → stepOf (one at) ≡ Next next → stepOf (many (count - k) at) ≡ stepOf (many (count - (k + 1)) next)
+  turn-next count k at next h q =
+      fewer count k at h
+      ∙ then-next (one at) (λ a next. andThen (many (count - (k + 1)) next) (λ l end. got (a ∷ l) end)) next (stepOf (many (count - (k + 1)) next)) q
+      (λ a. then-last (many (count - (k + 1)) next) (λ l. a ∷ l))
+
+------------------------------------------------------------------ the header
+
+module _ (s : List ℕ) where
+  pub mark-0 : (byteAt s 0 ≡ 0x56 → ⊥) → eqb (byteAt s 0) 0x56 ≡ marked s
+  unfolding marked
+  mark-0 h = simp (ne-eqb (byteAt s 0) 0x56 h)
+
+  pub mark-1 : byteAt s 0 ≡ 0x56 → (byteAt s 1 ≡ 0x4F → ⊥) → eqb (byteAt s 1) 0x4F ≡ marked s
+  unfolding marked
+  mark-1 g h = simp (eq-eqb (byteAt s 0) 0x56 g, ne-eqb (byteAt s 1) 0x4F h)
+
+  pub mark-2 : byteAt s 0 ≡ 0x56 → byteAt s 1 ≡ 0x4F → eqb (byteAt s 2) 0x43 ≡ marked s
+  unfolding marked
+  mark-2 g h = simp (eq-eqb (byteAt s 0) 0x56 g, eq-eqb (byteAt s 1) 0x4F h)
+
+  pub version-0 : (byteAt s 3 ≡ 1 → ⊥) → eqb (byteAt s 3) 1 ≡ versionOne s
+  unfolding versionOne
+  version-0 h = simp (ne-eqb (byteAt s 3) 1 h)
+
+  pub version-1 : byteAt s 3 ≡ 1 → eqb (byteAt s 4) 0 ≡ versionOne s
+  unfolding versionOne
+  version-1 g = simp (eq-eqb (byteAt s 3) 1 g)
+
+  pub header-short : length s < 10 → Stop 1 (length s) ≡ stepOf (readHeader s)
+  unfolding readHeader
+  header-short h = stop-if _ _ _ _ (lt-ltb (length s) 10 h)
+
+  pub header-mark : 10 ≤ length s → marked s ≡ false → Stop 2 0 ≡ stepOf (readHeader s)
+  unfolding readHeader
+  header-mark h w = pass-if _ _ _ _ _ (le-ltb (length s) 10 h) (stop-if _ _ _ _ (ap not w))
+
+  module _ (h : 10 ≤ length s) (mark : marked s ≡ true) where
+    pub header-version : versionOne s ≡ false → Stop 3 3 ≡ stepOf (readHeader s)
+    unfolding readHeader
+    header-version w = pass-if _ _ _ _ _ (le-ltb (length s) 10 h) (pass-if _ _ _ _ _ (ap not mark) (stop-if _ _ _ _ (ap not w)))
+
+    module _ (version : versionOne s ≡ true) where
+      counts : (z : Step)
+          → z ≡ stepOf (refuseIf (ltb maxRoles (byteAt s 6)) 4 6 (refuseIf (ltb maxVariables (byteAt s 7)) 4 7 (refuseIf (ltb maxAtoms (byteAt s 5 + byteAt s 8)) 4 8 (refuseIf (ltb maxLines (byteAt s 9)) 4 9 (got (headerOf s) 10)))))
+          → z ≡ stepOf (readHeader s)
+      unfolding readHeader
+      counts z q = pass-if _ _ _ _ z (le-ltb (length s) 10 h) (pass-if _ _ _ _ z (ap not mark) (pass-if _ _ _ _ z (ap not version) q))
+
+      pub header-roles : maxRoles < byteAt s 6 → Stop 4 6 ≡ stepOf (readHeader s)
+      header-roles w = counts _ (stop-if _ _ _ _ (lt-ltb maxRoles (byteAt s 6) w))
+
+      module _ (roles : byteAt s 6 ≤ maxRoles) where
+        pub header-variables : maxVariables < byteAt s 7 → Stop 4 7 ≡ stepOf (readHeader s)
+        header-variables w = counts _ (pass-if _ _ _ _ _ (le-ltb maxRoles (byteAt s 6) roles) (stop-if _ _ _ _ (lt-ltb maxVariables (byteAt s 7) w)))
+
+        module _ (variables : byteAt s 7 ≤ maxVariables) where
+          pub header-atoms : maxAtoms < byteAt s 5 + byteAt s 8 → Stop 4 8 ≡ stepOf (readHeader s)
+          header-atoms w =
+              counts _
+              (pass-if _ _ _ _ _ (le-ltb maxRoles (byteAt s 6) roles)
+              (pass-if _ _ _ _ _ (le-ltb maxVariables (byteAt s 7) variables)
+              (stop-if _ _ _ _ (lt-ltb maxAtoms (byteAt s 5 + byteAt s 8) w))))
+
+          module _ (atoms : byteAt s 5 + byteAt s 8 ≤ maxAtoms) where
+            pub header-lines : maxLines < byteAt s 9 → Stop 4 9 ≡ stepOf (readHeader s)
+            header-lines w =
+                counts _
+                (pass-if _ _ _ _ _ (le-ltb maxRoles (byteAt s 6) roles)
+                (pass-if _ _ _ _ _ (le-ltb maxVariables (byteAt s 7) variables)
+                (pass-if _ _ _ _ _ (le-ltb maxAtoms (byteAt s 5 + byteAt s 8) atoms)
+                (stop-if _ _ _ _ (lt-ltb maxLines (byteAt s 9) w)))))
+
+            pub header-all : byteAt s 9 ≤ maxLines → Next 10 ≡ stepOf (readHeader s)
+            unfolding stepOf
+            header-all w =
+                counts _
+                (pass-if _ _ _ _ _ (le-ltb maxRoles (byteAt s 6) roles)
+                (pass-if _ _ _ _ _ (le-ltb maxVariables (byteAt s 7) variables)
+                (pass-if _ _ _ _ _ (le-ltb maxAtoms (byteAt s 5 + byteAt s 8) atoms)
+                (pass-if _ _ _ _ _ (le-ltb maxLines (byteAt s 9) w) refl))))
+
+------------------------------------------------------------------ rows, entries, lines
+
+module _ (s : List ℕ) (h : Header) where
+  pub row-short : (at : ℕ) → length s ≤ at → Stop 1 (length s) ≡ stepOf (readRow s h at)
+  unfolding readRow
+  row-short at w = stop-if _ _ _ _ (le-leb (length s) at w)
+
+  pub row-role : (at : ℕ) → at < length s → h .r ≤ byteAt s at → Stop 5 at ≡ stepOf (readRow s h at)
+  unfolding readRow
+  row-role at l w = pass-if _ _ _ _ _ (lt-leb (length s) at l) (stop-if _ _ _ _ (le-leb (h .r) (byteAt s at) w))
+
+  module _ (at : ℕ) (l : at < length s) (role : byteAt s at < h .r) where
+    pub row-half : length s ≤ at + 1 → Stop 1 (length s) ≡ stepOf (readRow s h at)
+    unfolding readRow
+    row-half w =
+        pass-if _ _ _ _ _ (lt-leb (length s) at l)
+        (pass-if _ _ _ _ _ (lt-leb (h .r) (byteAt s at) role)
+        (stop-if _ _ _ _ (le-leb (length s) (at + 1) w)))
+
+    module _ (inside : at + 1 < length s) where
+      row-code : (z : Step) → z ≡ stepOf (orRefused (at + 1) (fillerOf (h .c) (h .v) (byteAt s (at + 1)))) → z ≡ stepOf (readRow s h at)
+      unfolding readRow
+      row-code z q =
+          pass-if _ _ _ _ z (lt-leb (length s) at l)
+          (pass-if _ _ _ _ z (lt-leb (h .r) (byteAt s at) role)
+          (pass-if _ _ _ _ z (lt-leb (length s) (at + 1) inside)
+          (q ∙ sym (then-last (orRefused (at + 1) (fillerOf (h .c) (h .v) (byteAt s (at + 1)))) (λ f. record { role = byteAt s at; filler = f })))))
+
+      pub row-filler : isSome (fillerOf (h .c) (h .v) (byteAt s (at + 1))) ≡ false → Stop 5 (at + 1) ≡ stepOf (readRow s h at)
+      row-filler w = row-code _ (stop-code (at + 1) _ w)
+
+      pub row-all : isSome (fillerOf (h .c) (h .v) (byteAt s (at + 1))) ≡ true → Next (at + 2) ≡ stepOf (readRow s h at)
+      row-all w = row-code _ (ap Next (let e : at + 2 ≡ at + 1 + 1 = omega arith in e) ∙ next-code (at + 1) _ w)
+
+  pub entry-short : (at : ℕ) → length s ≤ at → Stop 1 (length s) ≡ stepOf (readEntry s h at)
+  unfolding readEntry
+  entry-short at w = stop-if _ _ _ _ (le-leb (length s) at w)
+
+  pub entry-code : (at : ℕ) → at < length s → isSome (entryOf (h .c) (h .e) (h .v) (byteAt s at)) ≡ false → Stop 5 at ≡ stepOf (readEntry s h at)
+  unfolding readEntry
+  entry-code at l w = pass-if _ _ _ _ _ (lt-leb (length s) at l) (stop-code at _ w)
+
+  pub entry-all : (at : ℕ) → at < length s → isSome (entryOf (h .c) (h .e) (h .v) (byteAt s at)) ≡ true → Next (at + 1) ≡ stepOf (readEntry s h at)
+  unfolding readEntry
+  entry-all at l w = pass-if _ _ _ _ _ (lt-leb (length s) at l) (next-code at _ w)
+
+  pub line-short : (at : ℕ) → length s ≤ at → Stop 1 (length s) ≡ stepOf (readLine s h at)
+  unfolding readLine
+  line-short at w = stop-if _ _ _ _ (le-leb (length s) at w)
+
+  pub line-left : (at : ℕ) → at < length s → maxLeft < byteAt s at → Stop 4 at ≡ stepOf (readLine s h at)
+  unfolding readLine
+  line-left at l w = pass-if _ _ _ _ _ (lt-leb (length s) at l) (stop-if _ _ _ _ (lt-ltb maxLeft (byteAt s at) w))
+
+  module _ (at : ℕ) (l : at < length s) (few : byteAt s at ≤ maxLeft) where
+    abbrev thenRight : List Entry → ℕ → Read Line
+    thenRight left next = andThen (readEntry s h next) (λ right end. got (record { left = left; right = right }) end)
+
+    line-entries : (z : Step) → stepOf (andThen (readEntries s h (byteAt s at) (at + 1)) thenRight) ≡ z → z ≡ stepOf (readLine s h at)
+    unfolding readLine
+    line-entries z q = pass-if _ _ _ _ z (lt-leb (length s) at l) (pass-if _ _ _ _ z (le-ltb maxLeft (byteAt s at) few) (sym q))
+
+    module _ (count : ℕ) (same : count ≡ byteAt s at) where
+      counted : stepOf (readEntries s h (byteAt s at) (at + 1)) ≡ stepOf (readEntries s h count (at + 1))
+      counted = ap (λ (k : ℕ). stepOf (readEntries s h k (at + 1))) (sym same)
+
+      pub line-stop : (n p : ℕ) → stepOf (readEntries s h count (at + 1)) ≡ Stop n p → Stop n p ≡ stepOf (readLine s h at)
+      line-stop n p q = line-entries _ (then-stop (readEntries s h (byteAt s at) (at + 1)) thenRight n p (counted ∙ q))
+
+      pub line-right : (next : ℕ) → stepOf (readEntries s h count (at + 1)) ≡ Next next → stepOf (readEntry s h next) ≡ stepOf (readLine s h at)
+      line-right next q =
+          line-entries _
+          (then-next (readEntries s h (byteAt s at) (at + 1)) thenRight next (stepOf (readEntry s h next)) (counted ∙ q)
+          (λ left. then-last (readEntry s h next) (λ right. record { left = left; right = right })))
+
+  ---------------------------------------------------------------- loops
+
+  no-rows : (at : ℕ) → readRows s h 0 at ≡ got [] at
+  unfolding readRows
+  no-rows at = refl
+
+  a-row : (k at : ℕ) → readRows s h (suc k) at ≡ andThen (readRow s h at) (λ a next. andThen (readRows s h k next) (λ l end. got (a ∷ l) end))
+  unfolding readRows
+  a-row k at = refl
+
+  no-entries : (at : ℕ) → readEntries s h 0 at ≡ got [] at
+  unfolding readEntries
+  no-entries at = refl
+
+  an-entry : (k at : ℕ) → readEntries s h (suc k) at ≡ andThen (readEntry s h at) (λ a next. andThen (readEntries s h k next) (λ l end. got (a ∷ l) end))
+  unfolding readEntries
+  an-entry k at = refl
+
+  no-lines : (at : ℕ) → readLines s h 0 at ≡ got [] at
+  unfolding readLines
+  no-lines at = refl
+
+  a-line : (k at : ℕ) → readLines s h (suc k) at ≡ andThen (readLine s h at) (λ a next. andThen (readLines s h k next) (λ l end. got (a ∷ l) end))
+  unfolding readLines
+  a-line k at = refl
+
+  pub rows-start : (count at : ℕ) → stepOf (readRows s h count at) ≡ stepOf (readRows s h (count - 0) at)
+  rows-start = turn-start (readRow s h) (readRows s h) no-rows a-row
+
+  pub rows-end : (count k at : ℕ) → count ≤ k → stepOf (readRows s h (count - k) at) ≡ Next at
+  rows-end = turn-end (readRow s h) (readRows s h) no-rows a-row
+
+  pub rows-stop : (count k at n p : ℕ) → k < count → stepOf (readRow s h at) ≡ Stop n p → stepOf (readRows s h (count - k) at) ≡ Stop n p
+  rows-stop = turn-stop (readRow s h) (readRows s h) no-rows a-row
+
+  pub rows-next : (count k at next : ℕ) → k < count → stepOf (readRow s h at) ≡ Next next → stepOf (readRows s h (count - k) at) ≡ stepOf (readRows s h (count - (k + 1)) next)
+  rows-next = turn-next (readRow s h) (readRows s h) no-rows a-row
+
+  pub entries-start : (count at : ℕ) → stepOf (readEntries s h count at) ≡ stepOf (readEntries s h (count - 0) at)
+  entries-start = turn-start (readEntry s h) (readEntries s h) no-entries an-entry
+
+  pub entries-end : (count k at : ℕ) → count ≤ k → stepOf (readEntries s h (count - k) at) ≡ Next at
+  entries-end = turn-end (readEntry s h) (readEntries s h) no-entries an-entry
+
+  pub entries-stop : (count k at n p : ℕ) → k < count → stepOf (readEntry s h at) ≡ Stop n p → stepOf (readEntries s h (count - k) at) ≡ Stop n p
+  entries-stop = turn-stop (readEntry s h) (readEntries s h) no-entries an-entry
+
+  pub entries-next : (count k at next : ℕ) → k < count → stepOf (readEntry s h at) ≡ Next next → stepOf (readEntries s h (count - k) at) ≡ stepOf (readEntries s h (count - (k + 1)) next)
+  entries-next = turn-next (readEntry s h) (readEntries s h) no-entries an-entry
+
+  pub lines-start : (count at : ℕ) → stepOf (readLines s h count at) ≡ stepOf (readLines s h (count - 0) at)
+  lines-start = turn-start (readLine s h) (readLines s h) no-lines a-line
+
+  pub lines-end : (count k at : ℕ) → count ≤ k → stepOf (readLines s h (count - k) at) ≡ Next at
+  lines-end = turn-end (readLine s h) (readLines s h) no-lines a-line
+
+  pub lines-stop : (count k at n p : ℕ) → k < count → stepOf (readLine s h at) ≡ Stop n p → stepOf (readLines s h (count - k) at) ≡ Stop n p
+  lines-stop = turn-stop (readLine s h) (readLines s h) no-lines a-line
+
+  pub lines-next : (count k at next : ℕ) → k < count → stepOf (readLine s h at) ≡ Next next → stepOf (readLines s h (count - k) at) ≡ stepOf (readLines s h (count - (k + 1)) next)
+  lines-next = turn-next (readLine s h) (readLines s h) no-lines a-line
+
+  ---------------------------------------------------------------- the body
+
+  abbrev lastly : List Row → List Line → ℕ → Read Table
+  lastly rows lines end = refuseIf (ltb end (length s)) 6 end (got (record { constants = h .c; roles = h .r; variables = h .v; rows = rows; lines = lines }) end)
+
+  abbrev thenLines : List Row → ℕ → Read Table
+  thenLines rows next = andThen (readLines s h (h .m) next) (lastly rows)
+
+  body-opened : stepOf (readBody s h) ≡ stepOf (andThen (readRows s h (h .e) 10) thenLines)
+  unfolding readBody
+  body-opened = refl
+
+  module _ (rows : ℕ) (same-rows : rows ≡ h .e) where
+    rows-counted : stepOf (readRows s h (h .e) 10) ≡ stepOf (readRows s h rows 10)
+    rows-counted = ap (λ (k : ℕ). stepOf (readRows s h k 10)) (sym same-rows)
+
+    pub body-rows : (n p : ℕ) → stepOf (readRows s h rows 10) ≡ Stop n p → Stop n p ≡ stepOf (readBody s h)
+    body-rows n p q = sym (body-opened ∙ then-stop (readRows s h (h .e) 10) thenLines n p (rows-counted ∙ q))
+
+    module _ (next : ℕ) (past-rows : stepOf (readRows s h rows 10) ≡ Next next) (lines : ℕ) (same-lines : lines ≡ h .m) where
+      lines-counted : stepOf (readLines s h (h .m) next) ≡ stepOf (readLines s h lines next)
+      lines-counted = ap (λ (k : ℕ). stepOf (readLines s h k next)) (sym same-lines)
+
+      body-then : (z : Step) → ((l : List Row) → stepOf (thenLines l next) ≡ z) → z ≡ stepOf (readBody s h)
+      body-then z g = sym (body-opened ∙ then-next (readRows s h (h .e) 10) thenLines next z (rows-counted ∙ past-rows) g)
+
+      pub body-lines : (n p : ℕ) → stepOf (readLines s h lines next) ≡ Stop n p → Stop n p ≡ stepOf (readBody s h)
+      body-lines n p q = body-then _ (λ l. then-stop (readLines s h (h .m) next) (lastly l) n p (lines-counted ∙ q))
+
+      pub body-after : (end : ℕ) → stepOf (readLines s h lines next) ≡ Next end → end < length s → Stop 6 end ≡ stepOf (readBody s h)
+      body-after end q w = body-then _ (λ l. then-next (readLines s h (h .m) next) (lastly l) end _ (lines-counted ∙ q) (λ k. sym (stop-if _ _ _ _ (lt-ltb end (length s) w))))
+
+      pub body-all : (end : ℕ) → stepOf (readLines s h lines next) ≡ Next end → length s ≤ end → Next end ≡ stepOf (readBody s h)
+      unfolding stepOf
+      body-all end q w = body-then _ (λ l. then-next (readLines s h (h .m) next) (lastly l) end _ (lines-counted ∙ q) (λ k. sym (pass-if _ _ _ _ _ (le-ltb end (length s) w) refl)))
+
+------------------------------------------------------------------ the whole
+
+module _ (s : List ℕ) where
+  pub header-in : (at : ℕ) → stepOf (readHeader s) ≡ Next at → 10 ≤ length s
+  unfolding stepOf
+  header-in at q = go (readHeader s) refl q
+    where
+      go : (x : Read Header) → readHeader s ≡ x → stepOf x ≡ Next at → 10 ≤ length s
+      go (refused n p) e q = absurd (next-stop at n p (sym q))
+      go (got h end) e q = header-read s h end e .inside
+
+  pub check-header : (n p : ℕ) → stepOf (readHeader s) ≡ Stop n p → Refused n p ≡ verdictOf (reading s)
+  unfolding reading stepOf verdictOf
+  check-header n p q = go (readHeader s) q
+    where
+      go : (x : Read Header) → stepOf x ≡ Stop n p → Refused n p ≡ verdictOf (fromHeader s x)
+      go (refused m k) q = (let a : m ≡ n = cc in let b : k ≡ p = cc in rw (a, b))
+      go (got h at) q = absurd (next-stop at n p q)
+
+  check-opened : (at : ℕ) → stepOf (readHeader s) ≡ Next at → reading s ≡ whole (headerOf s) (readBody s (headerOf s))
+  unfolding reading stepOf
+  check-opened at q = go (readHeader s) refl q
+    where
+      go : (x : Read Header) → readHeader s ≡ x → stepOf x ≡ Next at → fromHeader s x ≡ whole (headerOf s) (readBody s (headerOf s))
+      go (refused n p) e q = absurd (next-stop at n p (sym q))
+      go (got h end) e q = ap (λ (k : Header). whole k (readBody s k)) (header-read s h end e .same)
+
+  pub check-body : (at n p : ℕ) → stepOf (readHeader s) ≡ Next at → stepOf (readBody s (headerOf s)) ≡ Stop n p → Refused n p ≡ verdictOf (reading s)
+  unfolding stepOf verdictOf
+  check-body at n p e q = go (readBody s (headerOf s)) q ∙ ap verdictOf (sym (check-opened at e))
+    where
+      go : (x : Read Table) → stepOf x ≡ Stop n p → Refused n p ≡ verdictOf (whole (headerOf s) x)
+      go (refused m k) q = (let a : m ≡ n = cc in let b : k ≡ p = cc in rw (a, b))
+      go (got t end) q = absurd (next-stop end n p q)
+
+  pub check-all : (at end : ℕ) → stepOf (readHeader s) ≡ Next at → stepOf (readBody s (headerOf s)) ≡ Next end → Readable ≡ verdictOf (reading s)
+  unfolding stepOf verdictOf
+  check-all at end e q = go (readBody s (headerOf s)) q ∙ ap verdictOf (sym (check-opened at e))
+    where
+      go : (x : Read Table) → stepOf x ≡ Next end → Readable ≡ verdictOf (whole (headerOf s) x)
+      go (refused m k) q = absurd (next-stop end m k (sym q))
+      go (got t at) q = refl
+
+------------------------------------------------------------------ where lines begin
+
+module _ (s : List ℕ) (ok : T (isReadable (reading s))) where
+  pub header-there : 10 ≤ length s
+  header-there = layout s ok .header-in
+
+  pub start-first : (e : ℕ) → e ≡ byteAt s 8 → 10 + 2 * e ≡ lineStart s 0
+  unfolding lineStart
+  start-first e q = ap (λ (k : ℕ). 10 + 2 * k) q
+
+  pub start-room : (i at : ℕ) → at ≡ lineStart s i → i < byteAt s 9 → at + byteAt s at + 2 ≤ length s
+  start-room i at q w = subst (λ (x : ℕ). x + byteAt s x + 2 ≤ length s) (sym q) (layout s ok .line-in i w)
+
+  pub start-next : (i at p : ℕ) → at ≡ lineStart s i → p ≡ byteAt s at → at + p + 2 ≡ lineStart s (i + 1)
+  unfolding lineStart
+  start-next i at p q e = ap (λ (k : ℕ). at + k + 2) e ∙ ap (λ (x : ℕ). x + byteAt s x + 2) q ∙ ap (lineStart s) (sym (add-one i))

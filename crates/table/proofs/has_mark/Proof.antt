@@ -1,0 +1,35 @@
+-- `table::has_mark` meets its contract: a law for each byte at which the test can end.
+use native.Mathlib.Omega.{arith}
+use borrow.Author.Needs.{needs}
+use Rattle.table.proofs.Laws.{mark-0, mark-1, mark-2}
+use Rattle.table.proofs.has_mark.Statement.{statement}
+use Rattle.table.proofs.has_mark.Tie as tie
+
+shared-slice-read-if1 : tie.Need-shared-slice-read-if1
+shared-slice-read-if1 c = search needs
+
+shared-slice-read-if2 : tie.Need-shared-slice-read-if2
+shared-slice-read-if2 c = search needs
+
+shared-slice-read-result : tie.Need-shared-slice-read-result
+shared-slice-read-result c = search needs
+
+returns : tie.Need-returns
+returns c = mark-2 _ (omega arith) (omega arith)
+
+returns-2 : tie.Need-returns-2
+returns-2 c = mark-1 _ (omega arith) (omega arith)
+
+returns-3 : tie.Need-returns-3
+returns-3 c = mark-0 _ (omega arith)
+
+pub has-mark-spec : {M : Type 1} → statement M
+has-mark-spec =
+    tie.close
+    (tie.spec
+    shared-slice-read-if1
+    shared-slice-read-if2
+    shared-slice-read-result
+    returns
+    returns-2
+    returns-3)

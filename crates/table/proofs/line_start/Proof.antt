@@ -1,0 +1,75 @@
+-- `table::line_start` meets its contract. The invariant: `at` is where line i begins; the layout of a readable table keeps it inside.
+-- The measure is how many lines are left.
+use mathlib.Core.Path.{_≡_, ap, _∙_}
+use Prim.Native.Nat.{_-_, _≤_}
+use native.Mathlib.Omega.{arith}
+use borrow.Author.Needs.{needs}
+use Rattle.table.specs.Layout.{lineStart}
+use Rattle.table.proofs.Laws.{header-there, start-first, start-room, start-next}
+use Rattle.table.proofs.line_start.Statement.{statement}
+use Rattle.table.proofs.line_start.Tie as tie
+
+abbrev Inv-loop : tie.InvT-loop
+Inv-loop table n at₀ i₀ at i = (i ≤ n) × (at ≡ lineStart table i)
+
+abbrev μ-loop : tie.MeasureT-loop
+μ-loop table n at₀ i₀ at i = n - i
+
+shared-slice-read-wide : tie.Need-shared-slice-read-wide Inv-loop μ-loop
+shared-slice-read-wide c = omega (arith, header-there _ (c .before .before .pre .0))
+
+wide-requires : tie.Need-wide-requires Inv-loop μ-loop
+wide-requires c κs = search needs
+
+mul-at : tie.Need-mul-at Inv-loop μ-loop
+mul-at c = omega (arith, c .wide .ensures, c .before .shared-slice-known2 .given 8)
+
+add-at : tie.Need-add-at Inv-loop μ-loop
+add-at c = omega (arith, c .wide .ensures, c .before .shared-slice-known2 .given 8)
+
+loop-holds : tie.Need-loop-holds Inv-loop μ-loop
+loop-holds c = (omega arith, start-first _ (c .before .before .before .pre .0) _ (c .wide .ensures))
+
+shared-slice-read-wide-2 : tie.Need-shared-slice-read-wide-2 Inv-loop μ-loop
+shared-slice-read-wide-2 c = omega (arith, start-room _ (c .before .before .before .before .before .before .pre .0) _ _ (c .before .before .loop .inv .1) (omega arith))
+
+wide-requires-2 : tie.Need-wide-requires-2 Inv-loop μ-loop
+wide-requires-2 c κs = search needs
+
+add-at-2 : tie.Need-add-at-2 Inv-loop μ-loop
+add-at-2 c = omega (arith, c .wide2 .ensures, start-room _ (c .before .before .before .before .before .before .before .pre .0) _ _ (c .before .before .before .loop .inv .1) (omega arith))
+
+add-at-3 : tie.Need-add-at-3 Inv-loop μ-loop
+add-at-3 c = omega (arith, c .wide2 .ensures, start-room _ (c .before .before .before .before .before .before .before .pre .0) _ _ (c .before .before .before .loop .inv .1) (omega arith))
+
+add-i : tie.Need-add-i Inv-loop μ-loop
+add-i c = omega arith
+
+loop-less : tie.Need-loop-less Inv-loop μ-loop
+loop-less c = omega arith
+
+loop-again : tie.Need-loop-again Inv-loop μ-loop
+loop-again c = (omega arith, start-next _ (c .before .before .before .before .before .before .before .pre .0) _ _ _ (c .before .before .before .loop .inv .1) (c .wide2 .ensures))
+
+returns : tie.Need-returns Inv-loop μ-loop
+returns c = let e : c .before .loop .i ≡ c .before .before .before .before .before .args .n = omega arith in c .before .loop .inv .1 ∙ ap (lineStart _) e
+
+pub line-start-spec : {M : Type 1} → statement M
+line-start-spec =
+    tie.close
+    (tie.spec
+    Inv-loop
+    μ-loop
+    shared-slice-read-wide
+    wide-requires
+    mul-at
+    add-at
+    loop-holds
+    shared-slice-read-wide-2
+    wide-requires-2
+    add-at-2
+    add-at-3
+    add-i
+    loop-less
+    loop-again
+    returns)

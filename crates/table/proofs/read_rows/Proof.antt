@@ -1,0 +1,59 @@
+-- `table::read_rows` meets its contract. The invariant: what is left to read from here is what there was to read from the start;
+-- the measure is how many rows are left.
+use mathlib.Core.Path.{_≡_, sym, _∙_}
+use Prim.Native.Nat.{_-_, _≤_}
+use native.Mathlib.Omega.{arith}
+use Rattle.table.specs.Reading.{headerOf, readRows}
+use Rattle.table.specs.Step.{stepOf}
+use Rattle.table.proofs.Laws.{rows-start, rows-end, rows-stop, rows-next}
+use Rattle.table.proofs.read_rows.Statement.{statement}
+use Rattle.table.proofs.read_rows.Tie as tie
+
+abbrev Inv-loop : tie.InvT-loop
+Inv-loop table count from at₀ k₀ at k = (k ≤ count) × (stepOf (readRows table (headerOf table) count from) ≡ stepOf (readRows table (headerOf table) (count - k) at))
+
+abbrev μ-loop : tie.MeasureT-loop
+μ-loop table count from at₀ k₀ at k = count - k
+
+loop-holds : tie.Need-loop-holds Inv-loop μ-loop
+loop-holds c = (omega arith, rows-start _ _ _ _)
+
+read-row-requires : tie.Need-read-row-requires Inv-loop μ-loop
+read-row-requires c κs = omega arith
+
+enum-known-next : tie.Need-enum-known-next Inv-loop μ-loop
+enum-known-next c = c .match .keys1
+
+enum-known-number : tie.Need-enum-known-number Inv-loop μ-loop
+enum-known-number c = c .match .keys2
+
+returns : tie.Need-returns Inv-loop μ-loop
+returns c = sym (c .before .before .before .before .before .loop .inv .1 ∙ rows-stop _ _ _ _ _ _ _ (omega arith) (sym (c .before .before .before .read-row .ensures) ∙ c .before .number .given .1))
+
+add-k : tie.Need-add-k Inv-loop μ-loop
+add-k c = omega arith
+
+loop-less : tie.Need-loop-less Inv-loop μ-loop
+loop-less c = omega arith
+
+loop-again : tie.Need-loop-again Inv-loop μ-loop
+loop-again c = (omega arith, c .before .before .before .before .before .loop .inv .1 ∙ rows-next _ _ _ _ _ _ (omega arith) (sym (c .before .before .before .read-row .ensures) ∙ c .before .next .given .1))
+
+returns-2 : tie.Need-returns-2 Inv-loop μ-loop
+returns-2 c = sym (c .before .loop .inv .1 ∙ rows-end _ _ _ _ _ (omega arith))
+
+pub read-rows-spec : {M : Type 1} → statement M
+read-rows-spec =
+    tie.close
+    (tie.spec
+    Inv-loop
+    μ-loop
+    loop-holds
+    read-row-requires
+    enum-known-next
+    enum-known-number
+    returns
+    add-k
+    loop-less
+    loop-again
+    returns-2)

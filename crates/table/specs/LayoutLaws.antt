@@ -1,0 +1,442 @@
+-- The bytes of a readable table lie as its table says.
+--
+--   refuse-got, then-got, or-got == what is known where something was read past a refusal, in two steps, from a code
+--   RowRead s h at row           == the two bytes at `at` are the row
+--   EntryRead s h at x           == the byte at `at` is the entry
+--   LineRead s h at l            == the bytes from `at` on are the line
+--   after s at n                 == the place after n lines from `at` on
+--   RowsRead, EntriesRead, LinesRead == the same of as many as are counted, and the place after them
+--   row-read, rows-read, entry-read, entries-read, line-read, lines-read == what was read is there
+--   HeaderRead s h               == the ten bytes are the header, within its bounds
+--   BodyRead s h t               == the bytes from 10 on are the table's rows and lines, and nothing follows
+--   filler-declared, entry-declared, every-at == what was read is declared
+--   layout                       == a readable table's bytes lie as its table says
+--   readable-header              == a reading's header and table are headerOf and tableOf
+use mathlib.Core.Path.{_≡_, refl, sym, ap, subst, _∙_}
+use mathlib.Core.Bool.{Bool, true, false, _&&_, not, cond}
+use mathlib.Core.List.{List, [], _∷_}
+use mathlib.Core.Option.{Option, none, some}
+use Prim.Native.Nat.{ℕ, zero, suc, _+_, _*_, _≤_, _<_}
+use native.Mathlib.Omega.{arith}
+use lib.Dec.{T, eqb, leb, ltb, lt→ltb}
+use lib.ListN.{length, getD}
+use mir.Facts.{yes-and}
+use borrow.Author.Tests.{ltb-true, ltb-false, leb-false}
+use Rattle.el.specs.Test.{everyOf}
+use Rattle.el.specs.Table.{Filler, topF, constantF, variableF, Entry, constant, restriction, variable, Row, Line, Table, rowAt, rowDeclared, fillerDeclared, entryDeclared, lineDeclared, declared}
+use Rattle.table.specs.declared.Kind.{Kind}
+use Rattle.table.specs.declared.Kind.the-variants.{Top, Constant, Restriction, Variable, Other}
+use Rattle.table.specs.Code.{kindOf, within, fillerOfKind, fillerOf, entryOfKind, entryOf}
+use Rattle.table.specs.Reading.{Read, refused, got, refuseIf, andThen, orRefused, byteAt, missing, Header, headerOf, marked, versionOne, readHeader, readRow, readRows, readEntry, readEntries, readLine, readLines, readBody, Reading, refusal, readable, whole, fromHeader, reading, theTable, tableOf, isReadable, maxAtoms, maxRoles, maxVariables, maxLines, maxLeft}
+use Rattle.table.specs.Layout.{lineAt, lineStart, Layout}
+
+pub refused-got : {A : Type 0} (n p : ℕ) (a : A) (end : ℕ) → refused n p ≡ got a end → ⊥
+refused-got n p a end q = let z : _≡_ {A = ℕ} 0 1 = cc in omega arith
+
+pub refuse-got : {A : Type 0} (t : Bool) (n p : ℕ) (x : Read A) (a : A) (end : ℕ) → refuseIf t n p x ≡ got a end → (t ≡ false) × (x ≡ got a end)
+refuse-got true n p x a end q = absurd (refused-got n p a end q)
+refuse-got false n p x a end q = (refl, q)
+
+pub then-got : {A B : Type 0} (x : Read A) (f : A → ℕ → Read B) (b : B) (end : ℕ)
+    → andThen x f ≡ got b end
+    → (a : A) × (at : ℕ) × (x ≡ got a at) × (f a at ≡ got b end)
+then-got (refused n p) f b end q = absurd (refused-got n p b end q)
+then-got (got a at) f b end q = (a, at, refl, q)
+
+pub or-got : {A : Type 0} (at : ℕ) (o : Option A) (a : A) (end : ℕ) → orRefused at o ≡ got a end → (o ≡ some a) × (end ≡ at + 1)
+or-got at none a end q = absurd (refused-got 5 at a end q)
+or-got at (some b) a end q = (cc, cc)
+
+pub got-same : {A : Type 0} (a b : A) (m n : ℕ) → got a m ≡ got b n → (a ≡ b) × (m ≡ n)
+got-same a b m n q = (cc, cc)
+
+-- the place after n lines from `at` on
+unfoldable pub after : List ℕ → ℕ → ℕ → ℕ
+after s at zero = at
+after s at (suc n) = after s at n + byteAt s (after s at n) + 2
+
+pub after-first : (s : List ℕ) (at n : ℕ) → after s (at + byteAt s at + 2) n ≡ after s at (suc n)
+unfolding after
+after-first s at zero = refl
+after-first s at (suc n) = ap (λ (p : ℕ). p + byteAt s p + 2) (after-first s at n)
+
+pub start-after : (s : List ℕ) (n : ℕ) → lineStart s n ≡ after s (10 + 2 * byteAt s 8) n
+unfolding after lineStart
+start-after s zero = refl
+start-after s (suc n) = ap (λ (p : ℕ). p + byteAt s p + 2) (start-after s n)
+
+module _ (s : List ℕ) (h : Header) where
+  ------------------------------------------------------------------ rows
+
+  pub record RowRead (at : ℕ) (row : Row) : Type 0 where
+    pub inside : at + 1 < length s
+    pub role : row .role ≡ byteAt s at
+    pub role-less : byteAt s at < h .r
+    pub filler : fillerOf (h .c) (h .v) (byteAt s (at + 1)) ≡ some (row .filler)
+
+  pub row-read : (at : ℕ) (row : Row) (end : ℕ) → readRow s h at ≡ got row end → RowRead at row × (end ≡ at + 2)
+  unfolding readRow
+  row-read at row end q =
+      let a = refuse-got (missing s at) 1 (length s) _ row end q in
+      let b = refuse-got (leb (h .r) (byteAt s at)) 5 at _ row end (a .1) in
+      let d = refuse-got (missing s (at + 1)) 1 (length s) _ row end (b .1) in
+      let f = then-got (orRefused (at + 1) (fillerOf (h .c) (h .v) (byteAt s (at + 1)))) (λ f next. got (record { role = byteAt s at; filler = f }) next) row end (d .1) in
+      let g = or-got (at + 1) (fillerOf (h .c) (h .v) (byteAt s (at + 1))) (f .0) (f .1) (f .2) in
+      let e = got-same (record { role = byteAt s at; filler = f .0 }) row (f .1) end (f .3) in (
+        record {
+          inside = leb-false (length s) (at + 1) (d .0);
+          role = sym (ap (λ (x : Row). x .role) (e .0));
+          role-less = leb-false (h .r) (byteAt s at) (b .0);
+          filler = g .0 ∙ ap (λ (x : Row). some (x .filler)) (e .0);
+        },
+        (let p : f .1 ≡ at + 1 + 1 = g .1 in let r : f .1 ≡ end = e .1 in omega arith),
+      )
+
+  pub record RowsRead (k at : ℕ) (rows : List Row) (end : ℕ) : Type 0 where
+    pub many : length rows ≡ k
+    pub each : (j : ℕ) → j < k → RowRead (at + 2 * j) (rowAt rows j)
+    pub next : end ≡ at + 2 * k
+
+  rows-cons : (k at : ℕ) (row : Row) (rows : List Row) (end mid : ℕ) → mid ≡ at + 2 → RowRead at row → RowsRead k mid rows end → RowsRead (suc k) at (row ∷ rows) end
+  unfolding rowAt
+  rows-cons k at row rows end mid e first rest =
+      record { many = ap suc (rest .many); each = each; next = let p : end ≡ mid + 2 * k = rest .next in omega arith }
+    where
+      each : (j : ℕ) → j < suc k → RowRead (at + 2 * j) (rowAt (row ∷ rows) j)
+      each zero l = subst (λ (p : ℕ). RowRead p row) (let p : at ≡ at + 2 * 0 = omega arith in p) first
+      each (suc j) l = subst (λ (p : ℕ). RowRead p (rowAt rows j)) (let p : mid + 2 * j ≡ at + 2 * suc j = omega arith in p) (rest .each j (omega arith))
+
+  pub rows-read : (k at : ℕ) (rows : List Row) (end : ℕ) → readRows s h k at ≡ got rows end → RowsRead k at rows end
+  unfolding readRows
+  rows-read zero at rows end q =
+      let e = got-same [] rows at end q in
+      record { many = sym (ap length (e .0)); each = λ j l. absurd (let p : ⊥ = omega arith in p); next = let p : at ≡ end = e .1 in omega arith }
+  rows-read (suc k) at rows end q =
+      let f = then-got (readRow s h at) (λ row next. andThen (readRows s h k next) (λ rest end. got (row ∷ rest) end)) rows end q in
+      let g = then-got (readRows s h k (f .1)) (λ rest end. got (f .0 ∷ rest) end) rows end (f .3) in
+      let e = got-same (f .0 ∷ g .0) rows (g .1) end (g .3) in
+      let first = row-read at (f .0) (f .1) (f .2) in
+      let rest = rows-read k (f .1) (g .0) (g .1) (g .2) in
+      subst (λ (l : List Row). RowsRead (suc k) at l end) (e .0)
+      (subst (λ (z : ℕ). RowsRead (suc k) at (f .0 ∷ g .0) z) (e .1)
+      (rows-cons k at (f .0) (g .0) (g .1) (f .1) (first .1) (first .0) rest))
+
+  ------------------------------------------------------------------ entries
+
+  pub record EntryRead (at : ℕ) (x : Entry) : Type 0 where
+    pub inside : at < length s
+    pub entry : entryOf (h .c) (h .e) (h .v) (byteAt s at) ≡ some x
+
+  pub entry-read : (at : ℕ) (x : Entry) (end : ℕ) → readEntry s h at ≡ got x end → EntryRead at x × (end ≡ at + 1)
+  unfolding readEntry
+  entry-read at x end q =
+      let a = refuse-got (missing s at) 1 (length s) _ x end q in
+      let g = or-got at (entryOf (h .c) (h .e) (h .v) (byteAt s at)) x end (a .1) in
+      (record { inside = leb-false (length s) at (a .0); entry = g .0 }, g .1)
+
+  pub record EntriesRead (k at : ℕ) (xs : List Entry) (end : ℕ) : Type 0 where
+    pub many : length xs ≡ k
+    pub each : (j : ℕ) → j < k → EntryRead (at + j) (getD xs j (constant 0))
+    pub next : end ≡ at + k
+
+  entries-cons : (k at : ℕ) (x : Entry) (xs : List Entry) (end mid : ℕ) → mid ≡ at + 1 → EntryRead at x → EntriesRead k mid xs end → EntriesRead (suc k) at (x ∷ xs) end
+  entries-cons k at x xs end mid e first rest =
+      record { many = ap suc (rest .many); each = each; next = let p : end ≡ mid + k = rest .next in omega arith }
+    where
+      each : (j : ℕ) → j < suc k → EntryRead (at + j) (getD (x ∷ xs) j (constant 0))
+      each zero l = subst (λ (p : ℕ). EntryRead p x) (let p : at ≡ at + 0 = omega arith in p) first
+      each (suc j) l = subst (λ (p : ℕ). EntryRead p (getD xs j (constant 0))) (let p : mid + j ≡ at + suc j = omega arith in p) (rest .each j (omega arith))
+
+  pub entries-read : (k at : ℕ) (xs : List Entry) (end : ℕ) → readEntries s h k at ≡ got xs end → EntriesRead k at xs end
+  unfolding readEntries
+  entries-read zero at xs end q =
+      let e = got-same [] xs at end q in
+      record { many = sym (ap length (e .0)); each = λ j l. absurd (let p : ⊥ = omega arith in p); next = let p : at ≡ end = e .1 in omega arith }
+  entries-read (suc k) at xs end q =
+      let f = then-got (readEntry s h at) (λ x next. andThen (readEntries s h k next) (λ rest end. got (x ∷ rest) end)) xs end q in
+      let g = then-got (readEntries s h k (f .1)) (λ rest end. got (f .0 ∷ rest) end) xs end (f .3) in
+      let e = got-same (f .0 ∷ g .0) xs (g .1) end (g .3) in
+      let first = entry-read at (f .0) (f .1) (f .2) in
+      let rest = entries-read k (f .1) (g .0) (g .1) (g .2) in
+      subst (λ (l : List Entry). EntriesRead (suc k) at l end) (e .0)
+      (subst (λ (z : ℕ). EntriesRead (suc k) at (f .0 ∷ g .0) z) (e .1)
+      (entries-cons k at (f .0) (g .0) (g .1) (f .1) (first .1) (first .0) rest))
+
+  ------------------------------------------------------------------ lines
+
+  pub record LineRead (at : ℕ) (l : Line) : Type 0 where
+    pub inside : at + byteAt s at + 2 ≤ length s
+    pub few : byteAt s at ≤ maxLeft
+    pub left-many : length (l .left) ≡ byteAt s at
+    pub left-each : (i : ℕ) → i < byteAt s at → EntryRead (at + 1 + i) (getD (l .left) i (constant 0))
+    pub right-one : EntryRead (at + 1 + byteAt s at) (l .right)
+
+  pub line-read : (at : ℕ) (l : Line) (end : ℕ) → readLine s h at ≡ got l end → LineRead at l × (end ≡ at + byteAt s at + 2)
+  unfolding readLine
+  line-read at l end q =
+      let a = refuse-got (missing s at) 1 (length s) _ l end q in
+      let b = refuse-got (ltb maxLeft (byteAt s at)) 4 at _ l end (a .1) in
+      let f = then-got (readEntries s h (byteAt s at) (at + 1)) (λ left next. andThen (readEntry s h next) (λ right end. got (record { left = left; right = right }) end)) l end (b .1) in
+      let g = then-got (readEntry s h (f .1)) (λ right end. got (record { left = f .0; right = right }) end) l end (f .3) in
+      let e = got-same (record { left = f .0; right = g .0 }) l (g .1) end (g .3) in
+      let left = entries-read (byteAt s at) (at + 1) (f .0) (f .1) (f .2) in
+      let right = entry-read (f .1) (g .0) (g .1) (g .2) in
+      let p : f .1 ≡ at + 1 + byteAt s at = left .next in
+      let r : g .1 ≡ f .1 + 1 = right .1 in
+      let z : g .1 ≡ end = e .1 in
+      let i : f .1 < length s = right .0 .inside in (
+        subst (λ (x : Line). LineRead at x) (e .0)
+            (record {
+              inside = omega arith;
+              few = ltb-false maxLeft (byteAt s at) (b .0);
+              left-many = left .many;
+              left-each = left .each;
+              right-one = subst (λ (x : ℕ). EntryRead x (g .0)) p (right .0);
+            }),
+        omega arith,
+      )
+
+  pub record LinesRead (k at : ℕ) (ls : List Line) (end : ℕ) : Type 0 where
+    pub many : length ls ≡ k
+    pub each : (n : ℕ) → n < k → LineRead (after s at n) (lineAt ls n)
+    pub next : end ≡ after s at k
+
+  lines-cons : (k at : ℕ) (l : Line) (ls : List Line) (end mid : ℕ) → mid ≡ at + byteAt s at + 2 → LineRead at l → LinesRead k mid ls end → LinesRead (suc k) at (l ∷ ls) end
+  unfolding lineAt after
+  lines-cons k at l ls end mid e first rest =
+      record { many = ap suc (rest .many); each = each; next = rest .next ∙ later k }
+    where
+      later : (n : ℕ) → after s mid n ≡ after s at (suc n)
+      later n = ap (λ (p : ℕ). after s p n) e ∙ after-first s at n
+
+      each : (n : ℕ) → n < suc k → LineRead (after s at n) (lineAt (l ∷ ls) n)
+      each zero w = first
+      each (suc n) w = subst (λ (p : ℕ). LineRead p (lineAt ls n)) (later n) (rest .each n (omega arith))
+
+  pub lines-read : (k at : ℕ) (ls : List Line) (end : ℕ) → readLines s h k at ≡ got ls end → LinesRead k at ls end
+  unfolding readLines after
+  lines-read zero at ls end q =
+      let e = got-same [] ls at end q in
+      record { many = sym (ap length (e .0)); each = λ n w. absurd (let p : ⊥ = omega arith in p); next = sym (e .1) }
+  lines-read (suc k) at ls end q =
+      let f = then-got (readLine s h at) (λ l next. andThen (readLines s h k next) (λ rest end. got (l ∷ rest) end)) ls end q in
+      let g = then-got (readLines s h k (f .1)) (λ rest end. got (f .0 ∷ rest) end) ls end (f .3) in
+      let e = got-same (f .0 ∷ g .0) ls (g .1) end (g .3) in
+      let first = line-read at (f .0) (f .1) (f .2) in
+      let rest = lines-read k (f .1) (g .0) (g .1) (g .2) in
+      subst (λ (x : List Line). LinesRead (suc k) at x end) (e .0)
+      (subst (λ (z : ℕ). LinesRead (suc k) at (f .0 ∷ g .0) z) (e .1)
+      (lines-cons k at (f .0) (g .0) (g .1) (f .1) (first .1) (first .0) rest))
+
+  ------------------------------------------------------------------ header and body
+
+  pub record HeaderRead : Type 0 where
+    pub same : h ≡ headerOf s
+    pub inside : 10 ≤ length s
+    pub few-roles : byteAt s 6 ≤ maxRoles
+    pub few-variables : byteAt s 7 ≤ maxVariables
+    pub few-atoms : byteAt s 5 + byteAt s 8 ≤ maxAtoms
+    pub few-lines : byteAt s 9 ≤ maxLines
+
+  pub header-read : (end : ℕ) → readHeader s ≡ got h end → HeaderRead
+  unfolding readHeader
+  header-read end q =
+      let a = refuse-got (ltb (length s) 10) 1 (length s) _ h end q in
+      let b = refuse-got (not (marked s)) 2 0 _ h end (a .1) in
+      let d = refuse-got (not (versionOne s)) 3 3 _ h end (b .1) in
+      let r = refuse-got (ltb maxRoles (byteAt s 6)) 4 6 _ h end (d .1) in
+      let v = refuse-got (ltb maxVariables (byteAt s 7)) 4 7 _ h end (r .1) in
+      let e = refuse-got (ltb maxAtoms (byteAt s 5 + byteAt s 8)) 4 8 _ h end (v .1) in
+      let m = refuse-got (ltb maxLines (byteAt s 9)) 4 9 _ h end (e .1) in
+      let g = got-same (headerOf s) h 10 end (m .1) in
+      record {
+        same = sym (g .0);
+        inside = ltb-false (length s) 10 (a .0);
+        few-roles = ltb-false maxRoles (byteAt s 6) (r .0);
+        few-variables = ltb-false maxVariables (byteAt s 7) (v .0);
+        few-atoms = ltb-false maxAtoms (byteAt s 5 + byteAt s 8) (e .0);
+        few-lines = ltb-false maxLines (byteAt s 9) (m .0);
+      }
+
+  abbrev pub tableWith : List Row → List Line → Table
+  tableWith rows lines = record { constants = h .c; roles = h .r; variables = h .v; rows = rows; lines = lines }
+
+  abbrev theRest : List Row → List Line → ℕ → Read Table
+  theRest rows lines end = refuseIf (ltb end (length s)) 6 end (got (tableWith rows lines) end)
+
+  pub record BodyRead (t : Table) : Type 0 where
+    pub rows : List Row
+    pub lines : List Line
+    pub same : t ≡ tableWith rows lines
+    pub rows-in : RowsRead (h .e) 10 rows (10 + 2 * h .e)
+    pub lines-in : LinesRead (h .m) (10 + 2 * h .e) lines (after s (10 + 2 * h .e) (h .m))
+    pub at-most : length s ≤ after s (10 + 2 * h .e) (h .m)
+
+  pub body-read : (t : Table) (end : ℕ) → readBody s h ≡ got t end → BodyRead t
+  unfolding readBody
+  body-read t end q =
+      let f = then-got (readRows s h (h .e) 10) (λ rows next. andThen (readLines s h (h .m) next) (λ lines z. theRest rows lines z)) t end q in
+      let g = then-got (readLines s h (h .m) (f .1)) (λ lines z. theRest (f .0) lines z) t end (f .3) in
+      let a = refuse-got (ltb (g .1) (length s)) 6 (g .1) _ t end (g .3) in
+      let e = got-same (tableWith (f .0) (g .0)) t (g .1) end (a .1) in
+      let rows = rows-read (h .e) 10 (f .0) (f .1) (f .2) in
+      let lines = lines-read (h .m) (f .1) (g .0) (g .1) (g .2) in
+      let w : f .1 ≡ 10 + 2 * h .e = rows .next in
+      let z : g .1 ≡ after s (10 + 2 * h .e) (h .m) = lines .next ∙ ap (λ (p : ℕ). after s p (h .m)) w in
+      record {
+        rows = f .0;
+        lines = g .0;
+        same = sym (e .0);
+        rows-in = subst (λ (p : ℕ). RowsRead (h .e) 10 (f .0) p) w rows;
+        lines-in = subst (λ (p : ℕ). LinesRead (h .m) (10 + 2 * h .e) (g .0) p) z (subst (λ (p : ℕ). LinesRead (h .m) p (g .0) (g .1)) w lines);
+        at-most = subst (λ (p : ℕ). length s ≤ p) z (ltb-false (g .1) (length s) (a .0));
+      }
+
+------------------------------------------------------------------ what was read is declared
+
+within-some : {A : Type 0} (k n : ℕ) (a x : A) → within k n a ≡ some x → (k < n) × (a ≡ x)
+unfolding within
+within-some k n a x q = go (ltb k n) refl q
+  where
+    go : (b : Bool) → ltb k n ≡ b → cond b (some a) none ≡ some x → (k < n) × (a ≡ x)
+    go true e q = (ltb-true k n e, cc)
+    go false e q = let z : _≡_ {A = ℕ} 0 1 = cc in absurd (let y : ⊥ = omega arith in y)
+
+none-some : {A : Type 0} (x : A) → none ≡ some x → ⊥
+none-some x q = let z : _≡_ {A = ℕ} 0 1 = cc in omega arith
+
+module _ (t : Table) where
+  pub filler-declared : (b : ℕ) (f : Filler) → fillerOf (t .constants) (t .variables) b ≡ some f → T (fillerDeclared t f)
+  unfolding fillerOf fillerOfKind
+  filler-declared b f q = go (kindOf b) q
+    where
+      go : (k : Kind) → fillerOfKind (t .constants) (t .variables) k ≡ some f → T (fillerDeclared t f)
+      go Top q = let e : topF ≡ f = cc in subst (λ (x : Filler). T (fillerDeclared t x)) e tt
+      go (Constant k) q = let w = within-some k (t .constants) (constantF k) f q in subst (λ (x : Filler). T (fillerDeclared t x)) (w .1) (lt→ltb k (t .constants) (w .0))
+      go (Restriction k) q = absurd (none-some f q)
+      go (Variable k) q = let w = within-some k (t .variables) (variableF k) f q in subst (λ (x : Filler). T (fillerDeclared t x)) (w .1) (lt→ltb k (t .variables) (w .0))
+      go Other q = absurd (none-some f q)
+
+  pub entry-declared : (b : ℕ) (x : Entry) → entryOf (t .constants) (length (t .rows)) (t .variables) b ≡ some x → T (entryDeclared t x)
+  unfolding entryOf entryOfKind
+  entry-declared b x q = go (kindOf b) q
+    where
+      go : (k : Kind) → entryOfKind (t .constants) (length (t .rows)) (t .variables) k ≡ some x → T (entryDeclared t x)
+      go Top q = absurd (none-some x q)
+      go (Constant k) q = let w = within-some k (t .constants) (constant k) x q in subst (λ (y : Entry). T (entryDeclared t y)) (w .1) (lt→ltb k (t .constants) (w .0))
+      go (Restriction k) q = let w = within-some k (length (t .rows)) (restriction k) x q in subst (λ (y : Entry). T (entryDeclared t y)) (w .1) (lt→ltb k (length (t .rows)) (w .0))
+      go (Variable k) q = let w = within-some k (t .variables) (variable k) x q in subst (λ (y : Entry). T (entryDeclared t y)) (w .1) (lt→ltb k (t .variables) (w .0))
+      go Other q = absurd (none-some x q)
+
+pub every-at : {A : Type 0} (p : A → Bool) (d : A) (l : List A) → ((i : ℕ) → i < length l → T (p (getD l i d))) → T (everyOf p l)
+unfolding everyOf
+every-at p d [] each = tt
+every-at p d (x ∷ l) each = yes-and (p x) (everyOf p l) (each 0 (omega arith)) (every-at p d l (λ i w. each (suc i) (omega arith)))
+
+------------------------------------------------------------------ the layout
+
+module _ (s : List ℕ) (rows : List Row) (lines : List Line)
+    (header : HeaderRead s (headerOf s))
+    (rows-in : RowsRead s (headerOf s) (byteAt s 8) 10 rows (10 + 2 * byteAt s 8))
+    (lines-in : LinesRead s (headerOf s) (byteAt s 9) (10 + 2 * byteAt s 8) lines (after s (10 + 2 * byteAt s 8) (byteAt s 9)))
+    (at-most : length s ≤ after s (10 + 2 * byteAt s 8) (byteAt s 9)) where
+  row-there : (k : ℕ) → k < byteAt s 8 → RowRead s (headerOf s) (10 + 2 * k) (rowAt rows k)
+  row-there k w = rows-in .each k w
+
+  line-there : (n : ℕ) → n < byteAt s 9 → LineRead s (headerOf s) (lineStart s n) (lineAt lines n)
+  line-there n w = rw start-after (lines-in .each n w)
+
+  rows-end : (k : ℕ) → k ≡ byteAt s 8 → 10 + 2 * k ≤ length s
+  rows-end zero e = header .inside
+  rows-end (suc k) e = let w = row-there k (omega arith) .inside in omega arith
+
+  starts-in : (n : ℕ) → n ≤ byteAt s 9 → lineStart s n ≤ length s
+  unfolding lineStart
+  starts-in zero w = rows-end (byteAt s 8) refl
+  starts-in (suc n) w = line-there n (omega arith) .inside
+
+  abbrev built : Table
+  built = tableWith s (headerOf s) rows lines
+
+  row-declared : (k : ℕ) → k < length rows → T (rowDeclared built (rowAt rows k))
+  row-declared k w =
+      let there = row-there k (let m : length rows ≡ byteAt s 8 = rows-in .many in omega arith) in
+      let less : rowAt rows k .role < byteAt s 6 = rw (there .role) (there .role-less) in
+      yes-and (ltb (rowAt rows k .role) (byteAt s 6)) (fillerDeclared built (rowAt rows k .filler)) (lt→ltb (rowAt rows k .role) (byteAt s 6) less) (filler-declared built (byteAt s (10 + 2 * k + 1)) (rowAt rows k .filler) (there .filler))
+
+  entry-there : (at : ℕ) (x : Entry) → EntryRead s (headerOf s) at x → T (entryDeclared built x)
+  entry-there at x there = entry-declared built (byteAt s at) x (ap (λ (e : ℕ). entryOf (byteAt s 5) e (byteAt s 7) (byteAt s at)) (rows-in .many) ∙ there .entry)
+
+  line-declared : (n : ℕ) → n < length lines → T (lineDeclared built (lineAt lines n))
+  line-declared n w =
+      let there = line-there n (let m : length lines ≡ byteAt s 9 = lines-in .many in omega arith) in
+      let many : length (lineAt lines n .left) ≡ byteAt s (lineStart s n) = there .left-many in
+      yes-and (everyOf (entryDeclared built) (lineAt lines n .left)) (entryDeclared built (lineAt lines n .right))
+      (every-at (entryDeclared built) (constant 0) (lineAt lines n .left) (λ i l. entry-there _ _ (there .left-each i (omega arith))))
+      (entry-there _ _ (there .right-one))
+
+  built-declared : T (declared built)
+  unfolding declared rowAt lineAt
+  built-declared =
+      yes-and (everyOf (rowDeclared built) rows) (everyOf (lineDeclared built) lines)
+      (every-at (rowDeclared built) (record { role = 0; filler = topF }) rows row-declared)
+      (every-at (lineDeclared built) (record { left = []; right = constant 0 }) lines line-declared)
+
+  pub laid : Layout s built
+  laid =
+      record {
+        constants = refl;
+        roles = refl;
+        variables = refl;
+        rows = rows-in .many;
+        lines = lines-in .many;
+        few-roles = header .few-roles;
+        few-variables = header .few-variables;
+        few-atoms = header .few-atoms;
+        few-lines = header .few-lines;
+        header-in = header .inside;
+        row-in = λ k w. (let l = row-there k w .inside in omega arith);
+        row-role = λ k w. row-there k w .role;
+        row-filler = λ k w. ap (λ (i : ℕ). fillerOf (byteAt s 5) (byteAt s 7) (byteAt s i)) (let e : 11 + 2 * k ≡ 10 + 2 * k + 1 = omega arith in e) ∙ row-there k w .filler;
+        line-in = λ n w. line-there n w .inside;
+        line-few = λ n w. line-there n w .few;
+        line-left = λ n w. line-there n w .left-many;
+        line-entry = λ n i w l. line-there n w .left-each i l .entry;
+        line-right = λ n w. line-there n w .right-one .entry;
+        line-end =
+            let le : lineStart s (byteAt s 9) ≤ length s = starts-in (byteAt s 9) (omega arith) in
+            let ge : length s ≤ lineStart s (byteAt s 9) = rw start-after at-most in
+            omega arith;
+        all-declared = built-declared;
+      }
+
+pub read-layout : (s : List ℕ) (h : Header) (at : ℕ) (t : Table) (end : ℕ) → readHeader s ≡ got h at → readBody s h ≡ got t end → Layout s t
+read-layout s h at t end e q =
+    let header = header-read s h at e in
+    let body = body-read s (headerOf s) t end (subst (λ (x : Header). readBody s x ≡ got t end) (header .same) q) in
+    subst (λ (x : Table). Layout s x) (sym (body .same))
+    (laid s (body .rows) (body .lines) (subst (λ (x : Header). HeaderRead s x) (header .same) header) (body .rows-in) (body .lines-in) (body .at-most))
+
+pub layout : (s : List ℕ) → T (isReadable (reading s)) → Layout s (tableOf s)
+unfolding reading tableOf
+layout s ok = go (readHeader s) refl ok
+  where
+    inner : (h : Header) (at : ℕ) → readHeader s ≡ got h at → (x : Read Table) → readBody s h ≡ x → T (isReadable (whole h x)) → Layout s (theTable (whole h x))
+    inner h at e (refused n p) q ok = absurd ok
+    inner h at e (got t end) q ok = read-layout s h at t end e q
+
+    go : (x : Read Header) → readHeader s ≡ x → T (isReadable (fromHeader s x)) → Layout s (theTable (fromHeader s x))
+    go (refused n p) e ok = absurd ok
+    go (got h at) e ok = inner h at e (readBody s h) refl ok
+
+pub readable-header : (s : List ℕ) (h : Header) (t : Table) → reading s ≡ readable h t → (h ≡ headerOf s) × (t ≡ tableOf s)
+unfolding reading tableOf
+readable-header s h t q = (go (readHeader s) refl q, sym (ap theTable q))
+  where
+    inner : (k : Header) (x : Read Table) → whole k x ≡ readable h t → k ≡ h
+    inner k (refused n p) q = let z : _≡_ {A = ℕ} 0 1 = cc in absurd (let y : ⊥ = omega arith in y)
+    inner k (got u end) q = cc
+
+    go : (x : Read Header) → readHeader s ≡ x → fromHeader s x ≡ readable h t → h ≡ headerOf s
+    go (refused n p) e q = let z : _≡_ {A = ℕ} 0 1 = cc in absurd (let y : ⊥ = omega arith in y)
+    go (got k at) e q = sym (inner k (readBody s k) q) ∙ header-read s k at e .same

@@ -5,5 +5,10 @@ pub mod Meaning
 pub mod Assignment
 pub mod Growth
 pub mod Walk
+pub mod ScanLaws
+pub mod StepLaws
+pub mod FirstLaws
 pub mod TestLaws
 pub mod ReachLaws
+pub mod NodeLaws
+pub mod OutcomeLaws

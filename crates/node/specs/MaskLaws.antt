@@ -1,5 +1,6 @@
 -- Laws of masks: numbers whose bits say which variables are meant.
 --
+--   or-none         == what no more adds to
 --   bit-or          == the bits of `a | b`
 --   bit-one         == the bits of `1 << k`
 --   shifted         == `1 << k` as the machine shifts it
@@ -24,6 +25,10 @@ use lib.Pow.{pow-pos, pow-lt, pow-add, shl-exact, shr-shr}
 use Rattle.el.specs.Test.{bit}
 use Rattle.el.specs.TestLaws.{bit-none}
 use Rattle.node.specs.Node.{Masks}
+
+pub or-none : (p : Bool) → p || false ≡ p
+or-none true = refl
+or-none false = refl
 
 digit-or : (a b : ℕ) → a < 2 → b < 2 → eqb (max a b) 1 ≡ eqb a 1 || eqb b 1
 digit-or zero zero h k = refl

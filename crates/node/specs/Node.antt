@@ -7,7 +7,6 @@
 --   leftTo rows l i y  == the variable y stands in one of the first i left entries of the line l, fillers included
 --   dependsSet t s y   == a variable with the set number s depends directly on y
 --   dependsTo t s k y  == the same over the first k restrictions
---   namesVariable b y  == the code b writes the variable y
 --   entryAs s b        == the entry that the code b writes in the table of the bytes s
 --   IsEntry s b        == there is one
 --   rowOf rows x       == the mask of variable x
@@ -22,8 +21,8 @@ use mathlib.Core.Path.{_≡_}
 use mathlib.Core.Bool.{Bool, _&&_, _||_, not}
 use mathlib.Core.List.{List}
 use mathlib.Core.Option.{Option, some}
-use Prim.Native.Nat.{ℕ, _+_, _-_, _≤_, _<_}
-use lib.Dec.{T, eqb, leb}
+use Prim.Native.Nat.{ℕ, _+_, _≤_, _<_}
+use lib.Dec.{T, eqb}
 use lib.ListN.{length, getD, take}
 use Rattle.el.specs.Test.{anyBelow, allBelow, anyOf, everyOf, bit}
 use Rattle.el.specs.Table.{Entry, Row, Line, Table, rowAt, declared}
@@ -55,10 +54,6 @@ dependsTo t s k y = anyBelow k (λ i. bit (t .constants + i) s && isVariable y (
 
 unfoldable pub dependsSet : Table → ℕ → ℕ → Bool
 dependsSet t s y = dependsTo t s (length (t .rows)) y
-
--- "0x60+k variable k"
-unfoldable pub namesVariable : ℕ → ℕ → Bool
-namesVariable b y = leb 0x60 b && eqb (b - 0x60) y
 
 abbrev pub entryAs : List ℕ → ℕ → Option Entry
 entryAs s b = entryOf (byteAt s 5) (byteAt s 8) (byteAt s 7) b

@@ -25,8 +25,7 @@ use Rattle.el.specs.Assignment.{depends, reaches}
 use Rattle.el.specs.ReachLaws.{reaches-declared, reaches-means}
 use Rattle.el.specs.Walk.{Node, chosen, entryVariables, entriesVariables, lineVariables, settled}
 use Rattle.node.specs.Node.{Masks, isAmong, leftTo, rowOf, Shows, reachedTo, SaysReady}
-use Rattle.node.specs.MaskLaws.{masks-none, masks-or, masks-same, high-none, none-high}
-use Rattle.node.specs.CodeLaws.{or-none}
+use Rattle.node.specs.MaskLaws.{or-none, masks-none, masks-or, masks-same, high-none, none-high}
 
 ----------------------------------------------------------------------------------------------------
 -- The variables of a line, entry by entry

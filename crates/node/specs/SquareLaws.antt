@@ -28,8 +28,7 @@ use Rattle.el.specs.Table.{Table, rowAt}
 use Rattle.el.specs.Assignment.{Assignment, setOf, isVariable, depends, path, reaches, acyclic}
 use Rattle.node.specs.Node.{nodeOf, Clean, Masks, dependsTo, dependsSet, rowOf, Direct, Paths, Closes, Shows, noCycle}
 use Rattle.node.specs.declared.Sets.{Sets}
-use Rattle.node.specs.MaskLaws.{masks-none, masks-or, masks-same}
-use Rattle.node.specs.CodeLaws.{or-none}
+use Rattle.node.specs.MaskLaws.{or-none, masks-none, masks-or, masks-same}
 
 ----------------------------------------------------------------------------------------------------
 -- The restrictions one by one

@@ -1,4 +1,5 @@
 // A node: the cycle test with its square of variables, readiness, and whether the node is dead.
+use table::Kind;
 ghost use mathlib.Core.Path.{_≡_};
 ghost use mathlib.Core.Option.{some};
 ghost use Prim.Native.Nat.{_+_, _≤_, _<_};
@@ -7,7 +8,7 @@ ghost use Rattle.el.specs.Assignment.{isVariable, depends};
 ghost use Rattle.el.specs.Walk.{entryVariables, lineVariables};
 ghost use Rattle.table.specs.Reading.{byteAt, tableOf};
 ghost use Rattle.table.specs.Layout.{Layout, lineAt, lineStart};
-ghost use Rattle.node.specs.Node.{nodeOf, Clean, Masks, isAmong, namesVariable, dependsSet, entryAs, IsEntry, Direct, Closes, Shows, noCycle, reachedTo, SaysReady};
+ghost use Rattle.node.specs.Node.{nodeOf, Clean, Masks, isAmong, dependsSet, entryAs, IsEntry, Direct, Closes, Shows, noCycle, reachedTo, SaysReady};
 
 // One set number for each variable, and how many variables are chosen.
 pub struct Sets {
@@ -20,25 +21,25 @@ pub struct Square {
     pub row: [u32; 12],
 }
 
-// The mask of the variable that a code writes; of any other code 0.
-fn variable_mask(code: u8) -> u32
-    requires { ⌜ code < 0x80 ⌝ }
-    ensures { λ r. ⌜ Masks (namesVariable code) r ⌝ }
+fn wide(x: u8) -> usize
+    ensures { λ r. ⌜ r ≡ x ⌝ }
 {
-    if code < 0x60 {
-        return 0;
-    }
-    let k = code - 0x60;
-    1u32 << k
+    x as usize
 }
 
-// The mask of the variable that stands inside restriction k.
+// The mask of the variable that stands inside restriction k; 0 where there is none.
 fn filler_mask(table: &[u8], k: usize) -> u32
     requires { ⌜ Layout (now table) (tableOf (now table)) ⌝ }
     requires { ⌜ k < byteAt (now table) 8 ⌝ }
     ensures { λ r. ⌜ Masks (λ y. isVariable y (rowAt (tableOf (now (table .entry)) .rows) k .filler)) r ⌝ }
 {
-    variable_mask(table[11 + 2 * k])
+    match table::kind_of(table[11 + 2 * k]) {
+        Kind::Top => 0,
+        Kind::Constant(_) => 0,
+        Kind::Restriction(_) => 0,
+        Kind::Variable(x) => 1u32 << wide(x),
+        Kind::Other => 0,
+    }
 }
 
 // The mask of the variables on which a variable with the set number `set` depends directly.
@@ -139,19 +140,13 @@ fn entry_mask(table: &[u8], code: u8) -> u32
     requires { ⌜ IsEntry (now table) code ⌝ }
     ensures { λ r. ⌜ ((x : Entry) → entryAs (now (table .entry)) code ≡ some x → Masks (isAmong (entryVariables (tableOf (now (table .entry)) .rows) x)) r) ⌝ }
 {
-    if code < 0x40 {
-        return 0;
+    match table::kind_of(code) {
+        Kind::Top => 0,
+        Kind::Constant(_) => 0,
+        Kind::Restriction(k) => filler_mask(table, wide(k)),
+        Kind::Variable(x) => 1u32 << wide(x),
+        Kind::Other => 0,
     }
-    if 0x60 <= code {
-        return variable_mask(code);
-    }
-    filler_mask(table, wide(code - 0x40))
-}
-
-fn wide(x: u8) -> usize
-    ensures { λ r. ⌜ r ≡ x ⌝ }
-{
-    x as usize
 }
 
 // The mask of the variables of line n, fillers included.

@@ -131,11 +131,11 @@ module _ (t : Table) (known : T (declared t)) (s l : Node) where
   unfolding Rattle.el.specs.Assignment.Acyclic
   acyclic-stays h = acyclic-means t known s .1 (λ x r. acyclic-means t known (s ++ l) .0 h x (reaches-stays r))
 
-  settled-chosen : (x : ℕ) → T (settled t s x) → x < length s
+  pub settled-chosen : (x : ℕ) → T (settled t s x) → x < length s
   unfolding settled chosen
   settled-chosen x h = ltb→lt x (length s) (and-left (ltb x (length s)) (allBelow (t .variables) (λ y. not (reaches t s x y) || chosen s y)) h)
 
-  settled-reached : (x y : ℕ) → T (settled t s x) → T (reaches t s x y) → y < length s
+  pub settled-reached : (x y : ℕ) → T (settled t s x) → T (reaches t s x y) → y < length s
   unfolding settled chosen
   settled-reached x y h r =
       let g : T (not (reaches t s x y) || ltb y (length s)) = allBelow-at (t .variables) y (λ z. not (reaches t s x z) || chosen s z)

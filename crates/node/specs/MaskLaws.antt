@@ -1,10 +1,12 @@
 -- Laws of masks: numbers whose bits say which variables are meant.
 --
---   or-none         == what no more adds to
+--   or-none, and-none, and-all == what no more adds to and what nothing passes
 --   bit-or          == the bits of `a | b`
+--   bit-and         == the bits of `a & b`
 --   bit-one         == the bits of `1 << k`
 --   shifted         == `1 << k` as the machine shifts it
 --   no-bits         == a number with no bits is 0
+--   same-bits       == numbers with the same bits are equal
 --   high-none       == a mask has no bit from k on where nothing is left after a shift by k
 --   none-high       == and back
 --   bit-is, bit-is-not == a bit as the machine tests it
@@ -13,14 +15,14 @@
 --   masks-same      == the same mask under a test that agrees
 use mathlib.Core.Path.{_≡_, refl, sym, ap, ap₂, subst, _∙_}
 use mathlib.Core.Bool.{Bool, true, false, _&&_, _||_, not}
-use Prim.Native.Nat.{ℕ, zero, suc, _+_, _-_, _*_, _/_, _%_, _^_, _≤_, _<_, max}
+use Prim.Native.Nat.{ℕ, zero, suc, _+_, _-_, _*_, _/_, _%_, _^_, _≤_, _<_, min, max}
 use native.Mathlib.Omega.{arith}
 use native.Mathlib.Nat.{mod-lt, div-self, div-eq-of-lt, mul-div-cancel-left, one-mul, pow-suc, div-one, div-div-eq-div-mul, pow-succ', mul-mod-left}
 use native.Mathlib.Decide.{ℕ-discrete, decLt}
 use borrow.Author.Tests.{eq-eqb, ne-eqb, eqb-false}
 use lib.Dec.{T, eqb}
 use lib.Arith.{bin-ind}
-use lib.Bits.{bitOr, or-shr, or-step}
+use lib.Bits.{bitOr, bitAnd, or-shr, or-step, and-shr, and-step}
 use lib.Pow.{pow-pos, pow-lt, pow-add, shl-exact, shr-shr}
 use Rattle.el.specs.Test.{bit}
 use Rattle.el.specs.TestLaws.{bit-none}
@@ -29,6 +31,14 @@ use Rattle.node.specs.Node.{Masks}
 pub or-none : (p : Bool) → p || false ≡ p
 or-none true = refl
 or-none false = refl
+
+pub and-none : (p : Bool) → p && false ≡ false
+and-none true = refl
+and-none false = refl
+
+pub and-all : (p : Bool) → p && true ≡ p
+and-all true = refl
+and-all false = refl
 
 digit-or : (a b : ℕ) → a < 2 → b < 2 → eqb (max a b) 1 ≡ eqb a 1 || eqb b 1
 digit-or zero zero h k = refl
@@ -47,6 +57,24 @@ unfolding bit
 bit-or i a b =
     ap (λ (n : ℕ). eqb (n % 2) 1) (or-shr a b i) ∙ ap (λ (n : ℕ). eqb n 1) (or-odd (a / 2 ^ i) (b / 2 ^ i))
     ∙ digit-or (a / 2 ^ i % 2) (b / 2 ^ i % 2) (omega arith) (omega arith)
+
+digit-and : (a b : ℕ) → a < 2 → b < 2 → eqb (min a b) 1 ≡ eqb a 1 && eqb b 1
+digit-and zero zero h k = refl
+digit-and zero (suc zero) h k = refl
+digit-and (suc zero) zero h k = refl
+digit-and (suc zero) (suc zero) h k = refl
+digit-and zero (suc (suc b)) h k = absurd (let z : ⊥ = omega arith in z)
+digit-and (suc zero) (suc (suc b)) h k = absurd (let z : ⊥ = omega arith in z)
+digit-and (suc (suc a)) b h k = absurd (let z : ⊥ = omega arith in z)
+
+and-odd : (a b : ℕ) → bitAnd a b % 2 ≡ min (a % 2) (b % 2)
+and-odd a b = ap (λ (n : ℕ). n % 2) (and-step a b) ∙ omega arith
+
+pub bit-and : (i a b : ℕ) → bit i (bitAnd a b) ≡ bit i a && bit i b
+unfolding bit
+bit-and i a b =
+    ap (λ (n : ℕ). eqb (n % 2) 1) (and-shr a b i) ∙ ap (λ (n : ℕ). eqb n 1) (and-odd (a / 2 ^ i) (b / 2 ^ i))
+    ∙ digit-and (a / 2 ^ i % 2) (b / 2 ^ i % 2) (omega arith) (omega arith)
 
 pub shifted : (k : ℕ) → k < 32 → 1 * 2 ^ k % 4294967296 ≡ 2 ^ k
 shifted k h = shl-exact 1 k 32 (omega arith) (omega arith) ∙ one-mul (2 ^ k)
@@ -92,6 +120,23 @@ no-bits =
   where
     even : (m : ℕ) → m < 2 → (m ≡ 1 → ⊥) → m ≡ 0
     even m h f = omega arith
+
+digit-same : (a b : ℕ) → a < 2 → b < 2 → eqb a 1 ≡ eqb b 1 → a ≡ b
+digit-same zero zero h k e = refl
+digit-same zero (suc zero) h k e = absurd (let z : _≡_ {A = ℕ} 0 1 = cc in omega arith)
+digit-same (suc zero) zero h k e = absurd (let z : _≡_ {A = ℕ} 0 1 = cc in omega arith)
+digit-same (suc zero) (suc zero) h k e = refl
+digit-same zero (suc (suc b)) h k e = absurd (let z : ⊥ = omega arith in z)
+digit-same (suc zero) (suc (suc b)) h k e = absurd (let z : ⊥ = omega arith in z)
+digit-same (suc (suc a)) b h k e = absurd (let z : ⊥ = omega arith in z)
+
+pub same-bits : (a b : ℕ) → ((y : ℕ) → bit y a ≡ bit y b) → a ≡ b
+same-bits =
+    bin-ind (λ (a : ℕ). (b : ℕ) → ((y : ℕ) → bit y a ≡ bit y b) → a ≡ b) (λ b f. sym (no-bits b (λ y. sym (f y) ∙ bit-none y)))
+    (λ a ih b f.
+    let h : a / 2 ≡ b / 2 = ih (b / 2) (λ y. sym (bit-half y a) ∙ f (suc y) ∙ bit-half y b) in
+    let l : a % 2 ≡ b % 2 = digit-same (a % 2) (b % 2) (omega arith) (omega arith) (sym (bit-odd a) ∙ f 0 ∙ bit-odd b) in
+    omega arith)
 
 pub high-none : (m k y : ℕ) → m / 2 ^ k ≡ 0 → k ≤ y → bit y m ≡ false
 high-none m k y e h =

@@ -5,8 +5,13 @@
 --   Masks p m          == the bits of the mask m are the numbers that pass p
 --   isAmong y l        == y is among the numbers of l
 --   leftTo rows l i y  == the variable y stands in one of the first i left entries of the line l, fillers included
---   dependsSet t s y   == a variable with the set number s depends directly on y
---   dependsTo t s k y  == the same over the first k restrictions
+--   dependsBy fill c s k y == bit c + i of s is set for some i below k whose mask of `fill` has the bit y
+--   dependsFrom fill c e set x y == variable x depends on y so, where `set` has the set numbers
+--   FillMasks rows k fill == `fill` has a mask of the variable inside each of the first k restrictions
+--   LineMasks t n mask == `mask` has a mask of the variables of each of the first n lines
+--   LineStarts s n start == `start` has the byte where each of the first n lines begins
+--   Fills t c e fill   == t has c constants and e restrictions, and `fill` has their masks
+--   Prepares s fill mask start == all three are those of the table of the bytes s, each with room for the longest table
 --   entryAs s b        == the entry that the code b writes in the table of the bytes s
 --   IsEntry s b        == there is one
 --   rowOf rows x       == the mask of variable x
@@ -14,22 +19,24 @@
 --   Paths d j n rows   == the masks of the variables below n show where they lead over inner variables below j
 --   Closes rows i j n after == from `rows` to `after` the inner variables grow from those below i to those below j; rows from n on stay
 --   Shows t s rows     == the mask of each variable shows what it reaches at the node s
+--   Squares fill c e sets rows == so it is at the node of the sets, whatever table has the masks `fill`
 --   noCycle rows n     == no variable below n leads to itself in the square
---   reachedTo rows m n y == y is in the mask m, or a variable below n that is in m leads to y
---   SaysReady rows n m r == r says whether the variables of the mask m are settled at a node of n chosen variables
+--   settledBy rows n x y == y is below x, and its mask has no bit from n on
+--   leadsBy rows z x y == y is below x and leads to z
 use mathlib.Core.Path.{_≡_}
-use mathlib.Core.Bool.{Bool, _&&_, _||_, not}
+use mathlib.Core.Bool.{Bool, _&&_, not}
 use mathlib.Core.List.{List}
 use mathlib.Core.Option.{Option, some}
-use Prim.Native.Nat.{ℕ, _+_, _≤_, _<_}
-use lib.Dec.{T, eqb}
+use Prim.Native.Nat.{ℕ, _+_, _/_, _^_, _≤_, _<_}
+use lib.Dec.{eqb, ltb}
 use lib.ListN.{length, getD, take}
-use Rattle.el.specs.Test.{anyBelow, allBelow, anyOf, everyOf, bit}
-use Rattle.el.specs.Table.{Entry, Row, Line, Table, rowAt, declared}
+use Rattle.el.specs.Test.{anyBelow, allBelow, anyOf, bit}
+use Rattle.el.specs.Table.{Entry, Row, Line, Table, rowAt}
 use Rattle.el.specs.Assignment.{isVariable, path, reaches}
-use Rattle.el.specs.Walk.{Node, entriesVariables, settled}
+use Rattle.el.specs.Walk.{Node, entriesVariables, lineVariables}
 use Rattle.table.specs.Code.{entryOf}
-use Rattle.table.specs.Reading.{byteAt}
+use Rattle.table.specs.Reading.{byteAt, tableOf, maxAtoms, maxLines}
+use Rattle.table.specs.Layout.{lineAt, lineStart}
 use Rattle.node.specs.declared.Sets.{Sets}
 
 -- "One set per variable, held together as one value"; "A node is a choice of sets for variables 0 to k-1"
@@ -49,11 +56,33 @@ unfoldable pub leftTo : List Row → Line → ℕ → ℕ → Bool
 leftTo rows l i = isAmong (entriesVariables rows (take i (l .left)))
 
 -- "X depends directly on Y if a restriction with filler Y is in X's set."
-unfoldable pub dependsTo : Table → ℕ → ℕ → ℕ → Bool
-dependsTo t s k y = anyBelow k (λ i. bit (t .constants + i) s && isVariable y (rowAt (t .rows) i .filler))
+unfoldable pub dependsBy : List ℕ → ℕ → ℕ → ℕ → ℕ → Bool
+dependsBy fill c s k y = anyBelow k (λ i. bit (c + i) s && bit y (getD fill i 0))
 
-unfoldable pub dependsSet : Table → ℕ → ℕ → Bool
-dependsSet t s y = dependsTo t s (length (t .rows)) y
+unfoldable pub dependsFrom : List ℕ → ℕ → ℕ → List ℕ → ℕ → ℕ → Bool
+dependsFrom fill c e set x = dependsBy fill c (getD set x 0) e
+
+unfoldable pub FillMasks : List Row → ℕ → List ℕ → Type 0
+FillMasks rows k fill = (i : ℕ) → i < k → Masks (λ y. isVariable y (rowAt rows i .filler)) (getD fill i 0)
+
+unfoldable pub LineMasks : Table → ℕ → List ℕ → Type 0
+LineMasks t n mask = (i : ℕ) → i < n → Masks (isAmong (lineVariables (t .rows) (lineAt (t .lines) i))) (getD mask i 0)
+
+unfoldable pub LineStarts : List ℕ → ℕ → List ℕ → Type 0
+LineStarts s n start = (i : ℕ) → i < n → getD start i 0 ≡ lineStart s i
+
+pub record Fills (t : Table) (c e : ℕ) (fill : List ℕ) : Type 0 where
+  pub constants : c ≡ t .constants
+  pub restrictions : e ≡ length (t .rows)
+  pub masks : FillMasks (t .rows) e fill
+
+pub record Prepares (s fill mask start : List ℕ) : Type 0 where
+  pub fills : FillMasks (tableOf s .rows) (byteAt s 8) fill
+  pub masks : LineMasks (tableOf s) (byteAt s 9) mask
+  pub starts : LineStarts s (byteAt s 9) start
+  pub fill-room : length fill ≡ maxAtoms
+  pub mask-room : length mask ≡ maxLines
+  pub start-room : length start ≡ maxLines
 
 abbrev pub entryAs : List ℕ → ℕ → Option Entry
 entryAs s b = entryOf (byteAt s 5) (byteAt s 8) (byteAt s 7) b
@@ -76,12 +105,14 @@ Closes rows i j n after = ((d : ℕ → ℕ → Bool) → Paths d i n rows → P
 unfoldable pub Shows : Table → Node → List ℕ → Type 0
 Shows t s rows = (x : ℕ) → Masks (reaches t s x) (rowOf rows x)
 
+unfoldable pub Squares : List ℕ → ℕ → ℕ → Sets → List ℕ → Type 0
+Squares fill c e sets rows = (t : Table) → Fills t c e fill → sets .chosen ≤ t .variables → Shows t (nodeOf sets) rows
+
 unfoldable pub noCycle : List ℕ → ℕ → Bool
 noCycle rows n = allBelow n (λ x. not (bit x (rowOf rows x)))
 
-unfoldable pub reachedTo : List ℕ → ℕ → ℕ → ℕ → Bool
-reachedTo rows m n y = bit y m || anyBelow n (λ x. bit x m && bit y (rowOf rows x))
+unfoldable pub settledBy : List ℕ → ℕ → ℕ → ℕ → Bool
+settledBy rows n x y = ltb y x && eqb (rowOf rows y / 2 ^ n) 0
 
-unfoldable pub SaysReady : List ℕ → ℕ → ℕ → Bool → Type 0
-SaysReady rows n m r =
-    (t : Table) (s : Node) (l : List ℕ) → T (declared t) → length s ≡ n → Shows t s rows → Masks (isAmong l) m → r ≡ everyOf (settled t s) l
+unfoldable pub leadsBy : List ℕ → ℕ → ℕ → ℕ → Bool
+leadsBy rows z x y = ltb y x && bit z (rowOf rows y)

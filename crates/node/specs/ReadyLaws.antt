@@ -2,37 +2,38 @@
 --
 --   left-start, left-more, line-whole == the variables of a line, entry by entry
 --   every-among, among-every == every number of a list passes a test
---   reached-start, reached-more, reached-skip, reached-whole == what the variables of a mask lead to, variable by variable
---   ready-not          == a variable of the mask is not chosen
---   ready-by           == none of the variables of the mask, and none that they reach, is past the chosen ones
+--   ready-by           == every number of one mask is in another
+--   none-by            == no number of one mask is in another
+--   settled-start, settled-more, settled-skip, settled-whole == the settled variables, one by one
+--   settled-says       == they are those that are chosen with all that they reach
+--   leads-start, leads-more, leads-skip, leads-whole == the variables that lead to z, one by one
+--   leads-says         == they are those that reach z
 use mathlib.Core.Path.{_≡_, refl, sym, ap, ap₂, subst, _∙_}
-use mathlib.Core.Bool.{Bool, true, false, _&&_, _||_, not}
+use mathlib.Core.Bool.{Bool, true, false, _&&_, _||_}
 use mathlib.Core.Logic.{_⊎_, inl, inr}
 use mathlib.Core.List.{List, [], _∷_, _++_, append-assoc}
-use Prim.Native.Nat.{ℕ, zero, suc, _+_, _-_, _/_, _^_, _≤_, _<_}
+use Prim.Native.Nat.{ℕ, _+_, _*_, _/_, _%_, _^_, _≤_, _<_}
 use native.Mathlib.Omega.{arith}
 use native.Mathlib.Numerals.{add-one}
 use native.Mathlib.Decide.{ℕ-discrete, decLt}
-use borrow.Author.Tests.{eq-eqb}
-use lib.Dec.{T, eqb, ltb, eqb→eq, eqb-refl, ltb→lt, lt→ltb, T-not, not-T}
+use borrow.Author.Tests.{eq-eqb, ne-eqb, lt-ltb, le-ltb}
+use lib.Dec.{T, eqb, ltb, eqb→eq, eqb-refl, ltb→lt, lt→ltb}
 use lib.ListN.{length, getD, take}
 use lib.Seq.{take-suc, take-all}
-use lib.Bits.{bitOr}
-use Rattle.el.specs.Test.{anyBelow, allBelow, anyOf, everyOf, bit}
-use Rattle.el.specs.TestLaws.{is-true, is-false, true-is, false-not, same-test, or-left, or-right, or-cases, and-make, and-left, and-right, anyBelow-hit, anyBelow-found, anyBelow-next, allBelow-all, allBelow-at, anyOf-append}
+use lib.Bits.{bitOr, bitAnd}
+use Rattle.el.specs.Test.{anyOf, everyOf, bit}
+use Rattle.el.specs.TestLaws.{is-true, is-false, true-is, false-not, same-test, or-left, or-right, or-cases, and-make, and-left, and-right, anyOf-append, bit-none}
 use Rattle.el.specs.Table.{Entry, constant, Row, Line, Table, declared}
-use Rattle.el.specs.Assignment.{depends, reaches}
-use Rattle.el.specs.ReachLaws.{reaches-declared, reaches-means}
-use Rattle.el.specs.Walk.{Node, chosen, entryVariables, entriesVariables, lineVariables, settled}
-use Rattle.node.specs.Node.{Masks, isAmong, leftTo, rowOf, Shows, reachedTo, SaysReady}
-use Rattle.node.specs.MaskLaws.{or-none, masks-none, masks-or, masks-same, high-none, none-high}
+use Rattle.el.specs.Assignment.{reaches}
+use Rattle.el.specs.Walk.{Node, entryVariables, entriesVariables, lineVariables, settled}
+use Rattle.el.specs.NodeLaws.{settled-chosen, settled-reached, settled-make}
+use Rattle.node.specs.Node.{Masks, isAmong, leftTo, rowOf, Shows, settledBy, leadsBy}
+use Rattle.node.specs.MaskLaws.{or-none, and-none, and-all, masks-none, masks-or, high-none, none-high, same-bits, bit-and}
+use Rattle.node.specs.CodeLaws.{mask-one}
+use Rattle.node.specs.SquareLaws.{reaches-unchosen}
 
 ----------------------------------------------------------------------------------------------------
 -- The variables of a line, entry by entry
-
-or-assoc : (a b c : Bool) → (a || b) || c ≡ a || (b || c)
-or-assoc true b c = refl
-or-assoc false b c = refl
 
 append-nil : (l : List ℕ) → l ++ [] ≡ l
 append-nil [] = refl
@@ -94,103 +95,121 @@ module _ (p : ℕ → Bool) where
       (among-every l (λ y u. f y (or-right (eqb x y) (isAmong l y) u)))
 
 ----------------------------------------------------------------------------------------------------
--- Readiness
+-- Readiness by masks
 
-module _ (t : Table) (s : Node) where
-  settled-chosen : (x : ℕ) → T (settled t s x) → x < length s
-  unfolding settled chosen
-  settled-chosen x u = ltb→lt x (length s) (and-left (ltb x (length s)) (allBelow (t .variables) (λ y. not (reaches t s x y) || ltb y (length s))) u)
+-- every variable of a mask is in another one
+pub ready-by : (p : ℕ → Bool) (l : List ℕ) (m k : ℕ) → Masks (isAmong l) m → Masks p k → eqb (bitAnd m k) m ≡ everyOf p l
+ready-by p l m k is of =
+    same-test (eqb (bitAnd m k) m) (everyOf p l)
+    (λ u. among-every p l (λ y w. inside (eqb→eq (bitAnd m k) m u) y w))
+    (λ u. true-is (eqb (bitAnd m k) m) (eq-eqb (bitAnd m k) m (same-bits (bitAnd m k) m (λ y. bit-and y m k ∙ same y u (bit y m) refl))))
+  where
+    inside : bitAnd m k ≡ m → (y : ℕ) → T (isAmong l y) → T (p y)
+    inside e y w =
+        subst T (of y) (and-right (bit y m) (bit y k) (subst T (ap (bit y) (sym e) ∙ bit-and y m k) (subst T (sym (is y)) w)))
 
-  settled-reached : T (declared t) → (x y : ℕ) → T (settled t s x) → T (reaches t s x y) → y < length s
-  unfolding settled chosen
-  settled-reached known x y u r =
-      go (or-cases (not (reaches t s x y)) (ltb y (length s))
-      (allBelow-at (t .variables) y (λ y. not (reaches t s x y) || ltb y (length s))
-      (and-right (ltb x (length s)) (allBelow (t .variables) (λ y. not (reaches t s x y) || ltb y (length s))) u)
-      (reaches-declared t known s (reaches-means t known s x y .0 r))))
-    where
-      go : T (not (reaches t s x y)) ⊎ T (ltb y (length s)) → y < length s
-      go (inl n) = absurd (T-not (reaches t s x y) n r)
-      go (inr l) = ltb→lt y (length s) l
+    same : (y : ℕ) → T (everyOf p l) → (b : Bool) → bit y m ≡ b → bit y m && bit y k ≡ bit y m
+    same y u true e = ap₂ _&&_ e (of y ∙ is-true (p y) (every-among p l y u (subst T (is y) (true-is (bit y m) e)))) ∙ sym e
+    same y u false e = ap (λ (b : Bool). b && bit y k) e ∙ sym e
 
-  settled-make : (x : ℕ) → x < length s → ((y : ℕ) → T (reaches t s x y) → y < length s) → T (settled t s x)
-  unfolding settled chosen
-  settled-make x h f =
-      and-make (ltb x (length s)) (allBelow (t .variables) (λ y. not (reaches t s x y) || ltb y (length s))) (lt→ltb x (length s) h)
-      (allBelow-all (t .variables) (λ y. not (reaches t s x y) || ltb y (length s)) (λ y l. go y (reaches t s x y) (λ u. f y u)))
-    where
-      go : (y : ℕ) (b : Bool) → (T b → y < length s) → T (not b || ltb y (length s))
-      go y true g = lt→ltb y (length s) (g tt)
-      go y false g = tt
+-- no variable of a mask is in another one
+pub none-by : (p : ℕ → Bool) (l : List ℕ) (m k : ℕ) → Masks (isAmong l) m → Masks p k → bitAnd m k ≡ 0 → (y : ℕ) → T (isAmong l y) → T (p y) → ⊥
+none-by p l m k is of e y u w =
+    false-not (bit y m && bit y k) (sym (bit-and y m k) ∙ ap (bit y) e ∙ bit-none y)
+    (and-make (bit y m) (bit y k) (subst T (sym (is y)) u) (subst T (sym (of y)) w))
 
-module _ (rows : List ℕ) (m : ℕ) where
-  pub reached-start : Masks (reachedTo rows m 0) m
-  unfolding reachedTo anyBelow
-  reached-start y = sym (or-none (bit y m))
+----------------------------------------------------------------------------------------------------
+-- The numbers below a bound that pass a test, one by one
 
-  pub reached-whole : (n x a : ℕ) → x ≤ n → n ≤ x → Masks (reachedTo rows m x) a → Masks (reachedTo rows m n) a
-  reached-whole n x a h k f = subst (λ (i : ℕ). Masks (reachedTo rows m i) a) (let z : x ≡ n = omega arith in z) f
+-- one number more below a bound
+below-next : (q : ℕ → Bool) (x y : ℕ) → ltb y (x + 1) && q y ≡ (ltb y x && q y) || (q x && eqb x y)
+below-next q x y = go (decLt y x) (ℕ-discrete x y)
+  where
+    go : Dec (y < x) → Dec (x ≡ y) → ltb y (x + 1) && q y ≡ (ltb y x && q y) || (q x && eqb x y)
+    go (yes h) d =
+        rw (lt-ltb y (x + 1) (omega arith), lt-ltb y x h, ne-eqb x y (λ e. omega arith)) (sym (ap (λ (p : Bool). q y || p) (and-none (q x)) ∙ or-none (q y)))
+    go (no h) (yes e) = rw (lt-ltb y (x + 1) (omega arith), le-ltb y x (omega arith), eq-eqb x y e) (ap q (sym e) ∙ sym (and-all (q x)))
+    go (no h) (no e) = rw (le-ltb y (x + 1) (omega arith), le-ltb y x (omega arith), ne-eqb x y e) (sym (and-none (q x)))
 
-  module _ (x a : ℕ) (is : Masks (reachedTo rows m x) a) where
-    next : (y : ℕ) → reachedTo rows m (x + 1) y ≡ reachedTo rows m x y || (bit x m && bit y (rowOf rows x))
-    unfolding reachedTo
-    next y = ap (λ (p : Bool). bit y m || p) (anyBelow-next x (λ i. bit i m && bit y (rowOf rows i)))
-        ∙ sym (or-assoc (bit y m) (anyBelow x (λ i. bit i m && bit y (rowOf rows i))) (bit x m && bit y (rowOf rows x)))
+module _ (q : ℕ → Bool) (x m : ℕ) (f : Masks (λ y. ltb y x && q y) m) where
+  pick-more : x < 32 → q x ≡ true → Masks (λ y. ltb y (x + 1) && q y) (bitOr m (1 * 2 ^ x % 4294967296))
+  pick-more h e y =
+      masks-or (λ y. ltb y x && q y) (λ y. eqb x y) m (1 * 2 ^ x % 4294967296) f (mask-one x h) y
+      ∙ sym (below-next q x y ∙ ap (λ (p : Bool). (ltb y x && q y) || (p && eqb x y)) e)
 
-    pub reached-more : bit x m ≡ true → Masks (reachedTo rows m (x + 1)) (bitOr a (rowOf rows x))
-    reached-more b y =
-        masks-or (reachedTo rows m x) (λ y. bit y (rowOf rows x)) a (rowOf rows x) is (λ y. refl) y
-        ∙ sym (next y ∙ ap (λ (p : Bool). reachedTo rows m x y || (p && bit y (rowOf rows x))) b)
+  pick-skip : q x ≡ false → Masks (λ y. ltb y (x + 1) && q y) m
+  pick-skip e y = f y ∙ sym (below-next q x y ∙ ap (λ (p : Bool). (ltb y x && q y) || (p && eqb x y)) e ∙ or-none (ltb y x && q y))
 
-    pub reached-skip : bit x m ≡ false → Masks (reachedTo rows m (x + 1)) a
-    reached-skip b y = is y ∙ sym (next y ∙ ap (λ (p : Bool). reachedTo rows m x y || (p && bit y (rowOf rows x))) b ∙ or-none (reachedTo rows m x y))
+pick-start : (q : ℕ → Bool) → Masks (λ y. ltb y 0 && q y) 0
+pick-start q y = bit-none y ∙ sym (ap (λ (p : Bool). p && q y) (le-ltb y 0 (omega arith)))
 
-module _ (rows : List ℕ) (n m : ℕ) where
-  pub ready-not : (m / 2 ^ n ≡ 0 → ⊥) → SaysReady rows n m false
-  unfolding SaysReady
-  ready-not not-low t s l known few shows is =
-      sym (is-false (everyOf (settled t s) l) (λ u. not-low (none-high m n (λ y h.
-      is-false (bit y m) (λ b. past y h (settled-chosen t s y (every-among (settled t s) l y u (subst T (is y) b))))))))
-    where
-      past : (y : ℕ) → n ≤ y → y < length s → ⊥
-      past y h k = omega arith
+----------------------------------------------------------------------------------------------------
+-- The settled variables of a node
 
-  pub ready-by : (a : ℕ) → m / 2 ^ n ≡ 0 → Masks (reachedTo rows m n) a → SaysReady rows n m (eqb (a / 2 ^ n) 0)
-  unfolding SaysReady Shows reachedTo
-  ready-by a low all t s l known few shows is =
-      same-test (eqb (a / 2 ^ n) 0) (everyOf (settled t s) l)
-      (λ u. among-every (settled t s) l (λ x w. fits (eqb→eq (a / 2 ^ n) 0 u) x w))
-      (λ u. true-is (eqb (a / 2 ^ n) 0) (eq-eqb (a / 2 ^ n) 0 (none-high a n (λ y h. is-false (bit y a) (λ b. past y h (inside u y (subst T (all y) b)))))))
-    where
-      past : (y : ℕ) → n ≤ y → y < length s → ⊥
-      past y h k = omega arith
+module _ (rows : List ℕ) (n : ℕ) where
+  pub settled-start : Masks (settledBy rows n 0) 0
+  unfolding settledBy
+  settled-start = pick-start (λ y. eqb (rowOf rows y / 2 ^ n) 0)
 
-      below : (k y : ℕ) → k / 2 ^ n ≡ 0 → T (bit y k) → y < n
-      below k y e b = go (decLt y n)
-        where
-          go : Dec (y < n) → y < n
-          go (yes h) = h
-          go (no h) = absurd (false-not (bit y k) (high-none k n y e (omega arith)) b)
+  module _ (x m : ℕ) (f : Masks (settledBy rows n x) m) where
+    pub settled-more : x < 32 → rowOf rows x / 2 ^ n ≡ 0 → Masks (settledBy rows n (x + 1)) (bitOr m (1 * 2 ^ x % 4294967296))
+    unfolding settledBy
+    settled-more h e = pick-more (λ y. eqb (rowOf rows y / 2 ^ n) 0) x m f h (eq-eqb (rowOf rows x / 2 ^ n) 0 e)
 
-      own : (x : ℕ) → T (isAmong l x) → x < n
-      own x w = below m x low (subst T (sym (is x)) w)
+    pub settled-skip : (rowOf rows x / 2 ^ n ≡ 0 → ⊥) → Masks (settledBy rows n (x + 1)) m
+    unfolding settledBy
+    settled-skip e = pick-skip (λ y. eqb (rowOf rows y / 2 ^ n) 0) x m f (ne-eqb (rowOf rows x / 2 ^ n) 0 e)
 
-      fits : a / 2 ^ n ≡ 0 → (x : ℕ) → T (isAmong l x) → T (settled t s x)
-      fits e x w =
-          settled-make t s x (let h : x < n = own x w in omega arith)
-          (λ y r.
-          let h : y < n = below a y e (subst T (sym (all y)) (or-right (bit y m) (anyBelow n (λ x. bit x m && bit y (rowOf rows x)))
-          (anyBelow-hit n x (λ x. bit x m && bit y (rowOf rows x)) (own x w)
-          (and-make (bit x m) (bit y (rowOf rows x)) (subst T (sym (is x)) w) (subst T (sym (shows x y)) r))))) in
-          omega arith)
+  pub settled-whole : (x m : ℕ) → x ≤ n → n ≤ x → Masks (settledBy rows n x) m → Masks (settledBy rows n n) m
+  settled-whole x m h k f = subst (λ (i : ℕ). Masks (settledBy rows n i) m) (let z : x ≡ n = omega arith in z) f
 
-      inside : T (everyOf (settled t s) l) → (y : ℕ) → T (reachedTo rows m n y) → y < length s
-      inside u y b = go (or-cases (bit y m) (anyBelow n (λ x. bit x m && bit y (rowOf rows x))) b)
-        where
-          go : T (bit y m) ⊎ T (anyBelow n (λ x. bit x m && bit y (rowOf rows x))) → y < length s
-          go (inl b) = settled-chosen t s y (every-among (settled t s) l y u (subst T (is y) b))
-          go (inr b) =
-              let r = anyBelow-found n (λ x. bit x m && bit y (rowOf rows x)) b in
-              settled-reached t s known (r .0) y
-              (every-among (settled t s) l (r .0) u (subst T (is (r .0)) (and-left (bit (r .0) m) (bit y (rowOf rows (r .0))) (r .2))))
-              (subst T (shows (r .0) y) (and-right (bit (r .0) m) (bit y (rowOf rows (r .0))) (r .2)))
+-- the mask has the settled variables
+pub settled-says : (t : Table) → T (declared t) → (s : Node) (rows : List ℕ) (n : ℕ) → n ≡ length s → Shows t s rows → (x : ℕ) → settledBy rows n n x ≡ settled t s x
+unfolding settledBy Shows
+settled-says t known s rows n e shows x =
+    same-test (ltb x n && eqb (rowOf rows x / 2 ^ n) 0) (settled t s x)
+    (λ u. settled-make t known s [] x (let h : x < n = ltb→lt x n (and-left (ltb x n) (eqb (rowOf rows x / 2 ^ n) 0) u) in omega arith)
+    (λ y r. low y (eqb→eq (rowOf rows x / 2 ^ n) 0 (and-right (ltb x n) (eqb (rowOf rows x / 2 ^ n) 0) u)) (subst T (sym (shows x y)) r)))
+    (λ u. and-make (ltb x n) (eqb (rowOf rows x / 2 ^ n) 0)
+    (lt→ltb x n (let h : x < length s = settled-chosen t known s [] x u in omega arith))
+    (true-is (eqb (rowOf rows x / 2 ^ n) 0) (eq-eqb (rowOf rows x / 2 ^ n) 0 (none-high (rowOf rows x) n (λ y h.
+    is-false (bit y (rowOf rows x)) (λ b. past y h (settled-reached t known s [] x y u (subst T (shows x y) b))))))))
+  where
+    past : (y : ℕ) → n ≤ y → y < length s → ⊥
+    past y h k = omega arith
+
+    low : (y : ℕ) → rowOf rows x / 2 ^ n ≡ 0 → T (bit y (rowOf rows x)) → y < length s
+    low y q b = go (decLt y n)
+      where
+        go : Dec (y < n) → y < length s
+        go (yes h) = omega arith
+        go (no h) = absurd (false-not (bit y (rowOf rows x)) (high-none (rowOf rows x) n y q (omega arith)) b)
+
+----------------------------------------------------------------------------------------------------
+-- The variables that lead to one
+
+module _ (rows : List ℕ) (z : ℕ) where
+  pub leads-start : Masks (leadsBy rows z 0) 0
+  unfolding leadsBy
+  leads-start = pick-start (λ y. bit z (rowOf rows y))
+
+  module _ (x m : ℕ) (f : Masks (leadsBy rows z x) m) where
+    pub leads-more : x < 32 → bit z (rowOf rows x) ≡ true → Masks (leadsBy rows z (x + 1)) (bitOr m (1 * 2 ^ x % 4294967296))
+    unfolding leadsBy
+    leads-more h e = pick-more (λ y. bit z (rowOf rows y)) x m f h e
+
+    pub leads-skip : bit z (rowOf rows x) ≡ false → Masks (leadsBy rows z (x + 1)) m
+    unfolding leadsBy
+    leads-skip e = pick-skip (λ y. bit z (rowOf rows y)) x m f e
+
+  pub leads-whole : (n x m : ℕ) → x ≤ n → n ≤ x → Masks (leadsBy rows z x) m → Masks (leadsBy rows z n) m
+  leads-whole n x m h k f = subst (λ (i : ℕ). Masks (leadsBy rows z i) m) (let q : x ≡ n = omega arith in q) f
+
+-- the mask has the variables that reach z
+pub leads-says : (t : Table) (s : Node) (rows : List ℕ) (n z : ℕ) → n ≡ length s → length s ≤ t .variables → Shows t s rows → (x : ℕ) → leadsBy rows z n x ≡ reaches t s x z
+unfolding leadsBy Shows
+leads-says t s rows n z e few shows x = go (decLt x n)
+  where
+    go : Dec (x < n) → ltb x n && bit z (rowOf rows x) ≡ reaches t s x z
+    go (yes h) = rw (lt-ltb x n h) (shows x z)
+    go (no h) = rw (le-ltb x n (omega arith)) (sym (reaches-unchosen t s few x z (omega arith)))

@@ -7,7 +7,10 @@
 --   half-start, half-more, half-skip, half-whole == the rows one by one
 --   Closing rows j n x after, closing-.. == the same for any dependences, with the rows that stay
 --   closes-start, closes-more, closes-whole == the inner variables one by one
---   square-shows       == where the variables below n are all that depend on any, n inner variables are enough
+--   set-node, length-node == the sets of the code as a node
+--   paths-whole        == where the variables below n are all that depend on any, n inner variables are enough
+--   square-shows       == the square shows what each variable reaches
+--   reaches-unchosen   == a variable that is not chosen reaches none
 --   no-cycle-start, no-cycle-more, no-cycle-whole, no-cycle-not == the cycle test, variable by variable
 --   acyclic-shown      == the cycle test read off the square
 use mathlib.Core.Path.{_≡_, refl, sym, ap, ap₂, subst, _∙_}
@@ -23,48 +26,58 @@ use lib.ListN.{length, getD, set, take, replicate, length-take, length-replicate
 use lib.Seq.{getD-set-same, getD-set-other, getD-take, length-take-le}
 use lib.Bits.{bitOr}
 use Rattle.el.specs.Test.{anyBelow, allBelow, bit}
-use Rattle.el.specs.TestLaws.{bit-none, anyBelow-next, anyBelow-none, same-test, allBelow-all, allBelow-at, allBelow-step, allBelow-false-at}
+use Rattle.el.specs.TestLaws.{bit-none, anyBelow-next, anyBelow-none, anyBelow-same, same-test, allBelow-all, allBelow-at, allBelow-step, allBelow-false-at}
 use Rattle.el.specs.Table.{Table, rowAt}
 use Rattle.el.specs.Assignment.{Assignment, setOf, isVariable, depends, path, reaches, acyclic}
-use Rattle.node.specs.Node.{nodeOf, Clean, Masks, dependsTo, dependsSet, rowOf, Direct, Paths, Closes, Shows, noCycle}
+use Rattle.node.specs.Node.{nodeOf, Clean, Masks, dependsBy, dependsFrom, FillMasks, Fills, rowOf, Direct, Paths, Closes, Shows, Squares, noCycle}
 use Rattle.node.specs.declared.Sets.{Sets}
-use Rattle.node.specs.MaskLaws.{or-none, masks-none, masks-or, masks-same}
+use Rattle.node.specs.MaskLaws.{or-none, and-none, masks-none, masks-or}
 
 ----------------------------------------------------------------------------------------------------
 -- The restrictions one by one
 
-module _ (t : Table) (s : ℕ) where
-  pub depends-start : Masks (dependsTo t s 0) 0
-  unfolding dependsTo anyBelow
+module _ (fill : List ℕ) (c s : ℕ) where
+  pub depends-start : Masks (dependsBy fill c s 0) 0
+  unfolding dependsBy anyBelow
   depends-start = masks-none
 
-  module _ (k m : ℕ) (is : Masks (dependsTo t s k) m) where
-    next : (y : ℕ) → dependsTo t s (k + 1) y ≡ dependsTo t s k y || (bit (t .constants + k) s && isVariable y (rowAt (t .rows) k .filler))
-    unfolding dependsTo
-    next y = anyBelow-next k (λ i. bit (t .constants + i) s && isVariable y (rowAt (t .rows) i .filler))
+  module _ (k m : ℕ) (is : Masks (dependsBy fill c s k) m) where
+    next : (y : ℕ) → dependsBy fill c s (k + 1) y ≡ dependsBy fill c s k y || (bit (c + k) s && bit y (getD fill k 0))
+    unfolding dependsBy
+    next y = anyBelow-next k (λ i. bit (c + i) s && bit y (getD fill i 0))
 
-    pub depends-more : (i f : ℕ) → i ≡ t .constants + k → bit i s ≡ true → Masks (λ y. isVariable y (rowAt (t .rows) k .filler)) f
-        → Masks (dependsTo t s (k + 1)) (bitOr m f)
-    depends-more i f at b g y =
-        masks-or (dependsTo t s k) (λ y. isVariable y (rowAt (t .rows) k .filler)) m f is g y
-        ∙ sym (next y ∙ ap (λ (p : Bool). dependsTo t s k y || (p && isVariable y (rowAt (t .rows) k .filler))) (ap (λ (j : ℕ). bit j s) (sym at) ∙ b))
+    pub depends-more : bit (c + k) s ≡ true → Masks (dependsBy fill c s (k + 1)) (bitOr m (getD fill k 0))
+    depends-more b y =
+        masks-or (dependsBy fill c s k) (λ y. bit y (getD fill k 0)) m (getD fill k 0) is (λ y. refl) y
+        ∙ sym (next y ∙ ap (λ (p : Bool). dependsBy fill c s k y || (p && bit y (getD fill k 0))) b)
 
-    pub depends-skip : (i : ℕ) → i ≡ t .constants + k → bit i s ≡ false → Masks (dependsTo t s (k + 1)) m
-    depends-skip i at b y =
-        is y
-        ∙ sym (next y ∙ ap (λ (p : Bool). dependsTo t s k y || (p && isVariable y (rowAt (t .rows) k .filler))) (ap (λ (j : ℕ). bit j s) (sym at) ∙ b)
-        ∙ or-none (dependsTo t s k y))
+    pub depends-skip : bit (c + k) s ≡ false → Masks (dependsBy fill c s (k + 1)) m
+    depends-skip b y =
+        is y ∙ sym (next y ∙ ap (λ (p : Bool). dependsBy fill c s k y || (p && bit y (getD fill k 0))) b ∙ or-none (dependsBy fill c s k y))
 
-  pub depends-whole : (k m : ℕ) → k ≡ length (t .rows) → Masks (dependsTo t s k) m → Masks (dependsSet t s) m
-  unfolding dependsSet
-  depends-whole k m e f = subst (λ (n : ℕ). Masks (dependsTo t s n) m) e f
+  pub depends-whole : (e k m : ℕ) → k ≤ e → e ≤ k → Masks (dependsBy fill c s k) m → Masks (dependsBy fill c s e) m
+  depends-whole e k m h l f = subst (λ (n : ℕ). Masks (dependsBy fill c s n) m) (let z : k ≡ e = omega arith in z) f
+
+-- the empty set depends on nothing
+depends-empty : (fill : List ℕ) (c e y : ℕ) → dependsBy fill c 0 e y ≡ false
+unfolding dependsBy
+depends-empty fill c e y =
+    anyBelow-none e (λ i. bit (c + i) 0 && bit y (getD fill i 0)) (λ i h. ap (λ (p : Bool). p && bit y (getD fill i 0)) (bit-none (c + i)))
+
+-- what the masks of the fillers say of a table
+depends-filled : (t : Table) (c e : ℕ) (fill : List ℕ) → Fills t c e fill → (a : Assignment) (x y : ℕ) → dependsBy fill c (setOf a x) e y ≡ depends t a x y
+unfolding dependsBy depends FillMasks
+depends-filled t c e fill fills a x y =
+    anyBelow-same e (λ i. bit (c + i) (setOf a x) && bit y (getD fill i 0)) (λ i. bit (t .constants + i) (setOf a x) && isVariable y (rowAt (t .rows) i .filler))
+    (λ i h. ap₂ _&&_ (ap (λ (k : ℕ). bit (k + i) (setOf a x)) (fills .constants)) (fills .masks i h y))
+    ∙ ap (λ (n : ℕ). anyBelow n (λ i. bit (t .constants + i) (setOf a x) && isVariable y (rowAt (t .rows) i .filler))) (fills .restrictions)
 
 ----------------------------------------------------------------------------------------------------
 -- The sets of the code as a node
 
-pub set-node : (sets : Sets) → sets .chosen ≤ length (sets .set) → Clean sets → (x : ℕ) → setOf (nodeOf sets) x ≡ getD (sets .set) x 0
+pub set-node : (sets : Sets) → Clean sets → (x : ℕ) → setOf (nodeOf sets) x ≡ getD (sets .set) x 0
 unfolding nodeOf Clean setOf
-set-node sets h clean x = go (decLt x (sets .chosen))
+set-node sets clean x = go (decLt x (sets .chosen))
   where
     go : Dec (x < sets .chosen) → getD (take (sets .chosen) (sets .set)) x 0 ≡ getD (sets .set) x 0
     go (yes l) = getD-take (sets .chosen) (sets .set) x 0 l
@@ -74,21 +87,6 @@ set-node sets h clean x = go (decLt x (sets .chosen))
 pub length-node : (sets : Sets) → sets .chosen ≤ length (sets .set) → length (nodeOf sets) ≡ sets .chosen
 unfolding nodeOf
 length-node sets h = length-take-le (sets .chosen) (sets .set) h
-
-pub depends-of : (t : Table) (a : Assignment) (x y : ℕ) → depends t a x y ≡ dependsSet t (setOf a x) y
-unfolding depends dependsSet dependsTo
-depends-of t a x y = refl
-
-pub depends-empty : (t : Table) (y : ℕ) → dependsSet t 0 y ≡ false
-unfolding dependsSet dependsTo
-depends-empty t y =
-    anyBelow-none (length (t .rows)) (λ i. bit (t .constants + i) 0 && isVariable y (rowAt (t .rows) i .filler))
-    (λ i h. ap (λ (p : Bool). p && isVariable y (rowAt (t .rows) i .filler)) (bit-none (t .constants + i)))
-
--- a variable that is not chosen depends on none
-pub depends-unchosen : (t : Table) (a : Assignment) (x y : ℕ) → length a ≤ x → depends t a x y ≡ false
-unfolding setOf
-depends-unchosen t a x y h = depends-of t a x y ∙ ap (λ (s : ℕ). dependsSet t s y) (List·getD-eq-default a 0 h) ∙ depends-empty t y
 
 ----------------------------------------------------------------------------------------------------
 -- The rows of direct dependences one by one
@@ -125,13 +123,12 @@ module _ (d : ℕ → ℕ → Bool) where
       go (yes h) = f .0 x h y
       go (no h) = ap (bit y) (f .1 x (omega arith)) ∙ bit-none y ∙ sym (none x y (omega arith))
 
-pub direct-node : (t : Table) (sets : Sets) (x : ℕ) (rows : List ℕ) → sets .chosen ≤ length (sets .set) → Clean sets → x ≤ sets .chosen → sets .chosen ≤ x
-    → DirectTo (λ i y. dependsSet t (getD (sets .set) i 0) y) x rows → Direct (depends t (nodeOf sets)) rows
-unfolding Direct Clean
-direct-node t sets x rows few clean h k f i y =
-    direct-whole (λ i y. dependsSet t (getD (sets .set) i 0) y) x rows f
-    (λ j z l. ap (λ (s : ℕ). dependsSet t s z) (clean j (omega arith)) ∙ depends-empty t z) i y
-    ∙ sym (depends-of t (nodeOf sets) i y ∙ ap (λ (s : ℕ). dependsSet t s y) (set-node sets few clean i))
+pub direct-node : (fill : List ℕ) (c e : ℕ) (sets : Sets) (x : ℕ) (rows : List ℕ) → Clean sets → sets .chosen ≤ x
+    → DirectTo (dependsFrom fill c e (sets .set)) x rows → Direct (dependsFrom fill c e (sets .set)) rows
+unfolding Clean dependsFrom
+direct-node fill c e sets x rows clean h f =
+    direct-whole (dependsFrom fill c e (sets .set)) x rows f
+    (λ i y l. ap (λ (s : ℕ). dependsBy fill c s e y) (clean i (omega arith)) ∙ depends-empty fill c e y)
 
 ----------------------------------------------------------------------------------------------------
 -- One more inner variable
@@ -144,10 +141,6 @@ or-absorbs-right : (p q : Bool) → p || (q && p) ≡ p
 or-absorbs-right true q = refl
 or-absorbs-right false true = refl
 or-absorbs-right false false = refl
-
-and-none : (p : Bool) → p && false ≡ false
-and-none true = refl
-and-none false = refl
 
 -- the rows below x have j as an inner variable, the others not yet
 unfoldable pub Half : (ℕ → ℕ → Bool) → ℕ → ℕ → ℕ → List ℕ → Type 0
@@ -301,14 +294,25 @@ module _ (rows : List ℕ) where
   unfolding noCycle
   no-cycle-not n x h b = allBelow-false-at n x (λ i. not (bit i (rowOf rows i))) h (ap not b)
 
-module _ (t : Table) (s : Assignment) (few : length s ≤ t .variables) where
-  pub square-shows : (direct rows : List ℕ) (n : ℕ) → n ≡ length s → Direct (depends t s) direct → Closes direct 0 n n rows → Shows t s rows
-  unfolding Shows reaches Closes
-  square-shows direct rows n e f g =
-      paths-whole (depends t s) n (λ x y h. depends-unchosen t s x y (omega arith)) (t .variables) direct rows (omega arith) f
-      (g .0 (depends t s) (direct-paths (depends t s) n direct f)) (g .1)
+-- a variable that is not chosen depends on none
+depends-unchosen : (t : Table) (a : Assignment) (x y : ℕ) → length a ≤ x → depends t a x y ≡ false
+unfolding depends setOf
+depends-unchosen t a x y h =
+    anyBelow-none (length (t .rows)) (λ i. bit (t .constants + i) (getD a x 0) && isVariable y (rowAt (t .rows) i .filler))
+    (λ i l. ap (λ (p : Bool). p && isVariable y (rowAt (t .rows) i .filler)) (ap (bit (t .constants + i)) (List·getD-eq-default a 0 h) ∙ bit-none (t .constants + i)))
 
-  reaches-unchosen : (x y : ℕ) → length s ≤ x → reaches t s x y ≡ false
+pub square-shows : (fill : List ℕ) (c e : ℕ) (sets : Sets) (direct rows : List ℕ) → Clean sets → sets .chosen ≤ length (sets .set)
+    → Direct (dependsFrom fill c e (sets .set)) direct → Closes direct 0 (sets .chosen) (sets .chosen) rows → Squares fill c e sets rows
+unfolding Squares Shows reaches Closes Direct dependsFrom
+square-shows fill c e sets direct rows clean room f g t fills few =
+    let s = nodeOf sets in
+    let d : Direct (depends t s) direct =
+    λ x y. f x y ∙ ap (λ (k : ℕ). dependsBy fill c k e y) (sym (set-node sets clean x)) ∙ depends-filled t c e fill fills s x y in
+    paths-whole (depends t s) (sets .chosen) (λ x y h. depends-unchosen t s x y (let n : length s ≡ sets .chosen = length-node sets room in omega arith))
+    (t .variables) direct rows few d (g .0 (depends t s) (direct-paths (depends t s) (sets .chosen) direct d)) (g .1)
+
+module _ (t : Table) (s : Assignment) (few : length s ≤ t .variables) where
+  pub reaches-unchosen : (x y : ℕ) → length s ≤ x → reaches t s x y ≡ false
   unfolding reaches
   reaches-unchosen x y h = path-none (depends t s) (t .variables) x (λ z. depends-unchosen t s x z h) y
 

@@ -3,12 +3,13 @@ use table::Kind;
 ghost use mathlib.Core.Path.{_≡_};
 ghost use mathlib.Core.Option.{some};
 ghost use Prim.Native.Nat.{_+_, _≤_, _<_};
+ghost use lib.ListN.{length};
 ghost use Rattle.el.specs.Table.{Entry, rowAt};
-ghost use Rattle.el.specs.Assignment.{isVariable, depends};
+ghost use Rattle.el.specs.Assignment.{isVariable};
 ghost use Rattle.el.specs.Walk.{entryVariables, lineVariables};
 ghost use Rattle.table.specs.Reading.{byteAt, tableOf};
 ghost use Rattle.table.specs.Layout.{Layout, lineAt, lineStart};
-ghost use Rattle.node.specs.Node.{nodeOf, Clean, Masks, isAmong, dependsSet, entryAs, IsEntry, Direct, Closes, Shows, noCycle, reachedTo, SaysReady};
+ghost use Rattle.node.specs.Node.{Clean, Masks, isAmong, dependsBy, dependsFrom, FillMasks, LineMasks, LineStarts, Prepares, entryAs, IsEntry, Direct, Closes, Squares, noCycle, settledBy, leadsBy};
 
 // One set number for each variable, and how many variables are chosen.
 pub struct Sets {
@@ -19,6 +20,20 @@ pub struct Sets {
 // The square of variables: bit y of row x says that x leads to y.
 pub struct Square {
     pub row: [u32; 12],
+}
+
+// The mask of the variables of each line, and the byte where it begins.
+struct Lines {
+    mask: [u32; 64],
+    start: [usize; 64],
+}
+
+// What is the same at every node: the mask of the variable inside each restriction, the mask of the variables of each
+// line, and the byte where each line begins.
+pub struct Prepared {
+    pub fill: [u32; 24],
+    pub mask: [u32; 64],
+    pub start: [usize; 64],
 }
 
 fn wide(x: u8) -> usize
@@ -42,36 +57,47 @@ fn filler_mask(table: &[u8], k: usize) -> u32
     }
 }
 
+// The mask of the variable inside each restriction.
+fn fill_masks(table: &[u8], e: usize) -> [u32; 24]
+    requires { ⌜ Layout (now table) (tableOf (now table)) × (e ≡ byteAt (now table) 8) ⌝ }
+    ensures { λ r. ⌜ FillMasks (tableOf (now (table .entry)) .rows) e r ⌝ }
+{
+    let mut fill = [0u32; 24];
+    let mut k: usize = 0;
+    while k < e {
+        fill[k] = filler_mask(table, k);
+        k += 1;
+    }
+    fill
+}
+
 // The mask of the variables on which a variable with the set number `set` depends directly.
-fn depends_row(table: &[u8], c: usize, e: usize, set: u32) -> u32
-    requires { ⌜ Layout (now table) (tableOf (now table)) ⌝ }
-    requires { ⌜ (c ≡ byteAt (now table) 5) × (e ≡ byteAt (now table) 8) ⌝ }
-    ensures { λ r. ⌜ Masks (dependsSet (tableOf (now (table .entry))) set) r ⌝ }
+fn depends_row(fill: &[u32], c: usize, e: usize, set: u32) -> u32
+    requires { ⌜ (c + e ≤ 24) × (e ≤ length (now fill)) ⌝ }
+    ensures { λ r. ⌜ Masks (dependsBy (now (fill .entry)) c set e) r ⌝ }
 {
     let mut mask: u32 = 0;
     let mut k: usize = 0;
     while k < e {
         if (set >> (c + k)) % 2 == 1 {
-            mask = mask | filler_mask(table, k);
+            mask = mask | fill[k];
         }
         k += 1;
     }
     mask
 }
 
-// The rows of direct dependences.
-fn direct_rows(table: &[u8], c: usize, e: usize, sets: Sets) -> Square
-    requires { ⌜ Layout (now table) (tableOf (now table)) ⌝ }
-    requires { ⌜ (c ≡ byteAt (now table) 5) × (e ≡ byteAt (now table) 8) × (sets .chosen ≤ byteAt (now table) 7) ⌝ }
-    requires { ⌜ Clean sets ⌝ }
-    ensures { λ r. ⌜ Direct (depends (tableOf (now (table .entry))) (nodeOf sets)) (r .row) ⌝ }
+// The rows of direct dependences: a variable that is not chosen has none.
+fn direct_rows(fill: &[u32], c: usize, e: usize, sets: Sets) -> Square
+    requires { ⌜ (c + e ≤ 24) × (e ≤ length (now fill)) × (sets .chosen ≤ 12) × Clean sets ⌝ }
+    ensures { λ r. ⌜ Direct (dependsFrom (now (fill .entry)) c e (sets .set)) (r .row) ⌝ }
 {
     let set = sets.set;
     let n = sets.chosen;
     let mut row = [0u32; 12];
     let mut x: usize = 0;
     while x < n {
-        row[x] = depends_row(table, c, e, set[x]);
+        row[x] = depends_row(fill, c, e, set[x]);
         x += 1;
     }
     Square { row }
@@ -109,13 +135,11 @@ fn close(square: Square, n: usize) -> Square
 }
 
 // The square of variables at a node: row x has a bit for each variable that x reaches.
-fn square_of(table: &[u8], c: usize, e: usize, sets: Sets) -> Square
-    requires { ⌜ Layout (now table) (tableOf (now table)) ⌝ }
-    requires { ⌜ (c ≡ byteAt (now table) 5) × (e ≡ byteAt (now table) 8) × (sets .chosen ≤ byteAt (now table) 7) ⌝ }
-    requires { ⌜ Clean sets ⌝ }
-    ensures { λ r. ⌜ Shows (tableOf (now (table .entry))) (nodeOf sets) (r .row) ⌝ }
+fn square_of(fill: &[u32], c: usize, e: usize, sets: Sets) -> Square
+    requires { ⌜ (c + e ≤ 24) × (e ≤ length (now fill)) × (sets .chosen ≤ 12) × Clean sets ⌝ }
+    ensures { λ r. ⌜ Squares (now (fill .entry)) c e sets (r .row) ⌝ }
 {
-    close(direct_rows(table, c, e, sets), sets.chosen)
+    close(direct_rows(fill, c, e, sets), sets.chosen)
 }
 
 // No variable below n leads to itself.
@@ -165,30 +189,66 @@ pub fn line_mask(table: &[u8], n: usize, at: usize) -> u32
     mask | entry_mask(table, table[at + 1 + p])
 }
 
-// The variables of a mask and those that they lead to.
-fn with_reached(square: Square, n: usize, mask: u32) -> u32
+// The mask of each line's variables, and the byte where it begins.
+fn lines_of(table: &[u8], e: usize, m: usize) -> Lines
+    requires { ⌜ Layout (now table) (tableOf (now table)) × (e ≡ byteAt (now table) 8) × (m ≡ byteAt (now table) 9) ⌝ }
+    ensures { λ r. ⌜ LineMasks (tableOf (now (table .entry))) m (r .mask) × LineStarts (now (table .entry)) m (r .start) ⌝ }
+{
+    let mut mask = [0u32; 64];
+    let mut start = [0usize; 64];
+    let mut at = 10 + 2 * e;
+    let mut n: usize = 0;
+    while n < m {
+        mask[n] = line_mask(table, n, at);
+        start[n] = at;
+        at = at + wide(table[at]) + 2;
+        n += 1;
+    }
+    Lines { mask, start }
+}
+
+// What is prepared once for every node of a table.
+pub fn prepare(table: &[u8], e: usize, m: usize) -> Prepared
+    requires { ⌜ Layout (now table) (tableOf (now table)) × (e ≡ byteAt (now table) 8) × (m ≡ byteAt (now table) 9) ⌝ }
+    ensures { λ r. ⌜ Prepares (now (table .entry)) (r .fill) (r .mask) (r .start) ⌝ }
+{
+    let fill = fill_masks(table, e);
+    let lines = lines_of(table, e, m);
+    let mask = lines.mask;
+    let start = lines.start;
+    Prepared { fill, mask, start }
+}
+
+// The mask of the settled variables: the chosen ones, n in number, that lead to none that is not chosen.
+fn settled_mask(square: Square, n: usize) -> u32
     requires { ⌜ n ≤ 12 ⌝ }
-    ensures { λ r. ⌜ Masks (reachedTo (square .row) mask n) r ⌝ }
+    ensures { λ r. ⌜ Masks (settledBy (square .row) n n) r ⌝ }
 {
     let row = square.row;
-    let mut all = mask;
+    let mut mask: u32 = 0;
     let mut x: usize = 0;
     while x < n {
-        if (mask >> x) % 2 == 1 {
-            all = all | row[x];
+        if (row[x] >> n) == 0 {
+            mask = mask | (1u32 << x);
         }
         x += 1;
     }
-    all
+    mask
 }
 
-// Whether every variable of a mask, and every one that it leads to, is below n.
-fn is_ready(square: Square, n: usize, mask: u32) -> bool
-    requires { ⌜ n ≤ 12 ⌝ }
-    ensures { λ r. ⌜ SaysReady (square .row) n mask r ⌝ }
+// The mask of the variables below n that lead to z.
+fn leads_mask(square: Square, n: usize, z: usize) -> u32
+    requires { ⌜ (n ≤ 12) × (z < 12) ⌝ }
+    ensures { λ r. ⌜ Masks (leadsBy (square .row) z n) r ⌝ }
 {
-    if (mask >> n) != 0 {
-        return false;
+    let row = square.row;
+    let mut mask: u32 = 0;
+    let mut x: usize = 0;
+    while x < n {
+        if (row[x] >> z) % 2 == 1 {
+            mask = mask | (1u32 << x);
+        }
+        x += 1;
     }
-    (with_reached(square, n, mask) >> n) == 0
+    mask
 }

@@ -1,5 +1,4 @@
 use Rattle.node.specs.SquareLaws.{depends-start, depends-more, depends-skip, depends-whole}
-use Rattle.table.specs.Reading.{tableOf}
 use mathlib.Core.Path.{_≡_, refl, sym, ap, ap₂, subst, _∙_}
 use mathlib.Core.Bool.{Bool, true, false, _&&_, _||_, not}
 use mathlib.Core.Logic.{⊎-elim}
@@ -8,62 +7,65 @@ use Prim.Native.Nat.{ℕ, _+_, _-_, _≤_, _<_}
 use native.Mathlib.Omega.{arith}
 use lib.ListN.{length, getD, length-set}
 use Rattle.el.specs.Test.{anyBelow, allBelow, bit}
-use Rattle.node.specs.Node.{nodeOf, Masks, isAmong, dependsTo, rowOf, Direct, Paths, Shows, noCycle, reachedTo, SaysReady}
+use Rattle.node.specs.Node.{nodeOf, Clean, Masks, isAmong, leftTo, dependsBy, rowOf, Direct, Paths, Closes, Shows, Squares, noCycle, settledBy, leadsBy}
 use Rattle.node.specs.MaskLaws.{bit-is, bit-is-not}
 use borrow.Author.Needs.{needs}
 use Rattle.node.proofs.depends_row.Statement.{statement}
 use Rattle.node.proofs.depends_row.Tie as tie
 use Rattle.node.proofs.depends_row.Reads as reads
 use Rattle.node.proofs.depends_row.Lts as lts
-use Rattle.node.proofs.filler_mask.Reads as filler-mask-reads
 
 abbrev Inv-loop : tie.InvT-loop
-Inv-loop table c e set mask₀ k₀ mask k = (k ≤ e) × Masks (dependsTo (tableOf table) set k) mask
+Inv-loop fill c e set mask₀ k₀ mask k = (k ≤ e) × Masks (dependsBy fill c set k) mask
 
 abbrev μ-loop : tie.MeasureT-loop
-μ-loop table c e set mask₀ k₀ mask k = e - k
+μ-loop fill c e set mask₀ k₀ mask k = e - k
 
--- src/lib.rt:54:5
+-- src/lib.rt:53:5
 loop-holds : tie.Need-loop-holds Inv-loop μ-loop
-loop-holds c = (omega arith, depends-start _ _)
+loop-holds c = (omega arith, depends-start _ _ _)
 
--- src/lib.rt:55:21
+-- src/lib.rt:54:21
 add-if1 : tie.Need-add-if1 Inv-loop μ-loop
-add-if1 c = omega arith
+add-if1 c = search needs
 
--- src/lib.rt:55:21
+-- src/lib.rt:54:21
 cast-if1 : tie.Need-cast-if1 Inv-loop μ-loop
-cast-if1 c = omega arith
+cast-if1 c = search needs
 
--- src/lib.rt:55:13
+-- src/lib.rt:54:13
 shr-if1 : tie.Need-shr-if1 Inv-loop μ-loop
-shr-if1 c = omega arith
+shr-if1 c = search needs
 
--- src/lib.rt:56:27
-filler-mask-requires : tie.Need-filler-mask-requires Inv-loop μ-loop
-filler-mask-requires c κs = search needs
+-- src/lib.rt:55:27
+mul-mask : tie.Need-mul-mask Inv-loop μ-loop
+mul-mask c = search needs
 
--- src/lib.rt:58:9
+-- src/lib.rt:55:27
+shared-slice-read-mask : tie.Need-shared-slice-read-mask Inv-loop μ-loop
+shared-slice-read-mask c = search needs
+
+-- src/lib.rt:57:9
 add-k : tie.Need-add-k Inv-loop μ-loop
 add-k c = search needs
 
--- src/lib.rt:54:5
+-- src/lib.rt:53:5
 loop-less : tie.Need-loop-less Inv-loop μ-loop
 loop-less c = search needs
 
--- src/lib.rt:54:5
+-- src/lib.rt:53:5
 loop-again : tie.Need-loop-again Inv-loop μ-loop
 loop-again c = (
   omega arith,
   λ y. ⊎-elim
-      (λ w. ap (bit y) (w .2) ∙ depends-more _ _ _ _ (c .before .before .loop .inv .1) _ _ (omega arith) (bit-is _ _ (w .0 .taken)) (w .1 .ensures) y)
-      (λ w. ap (bit y) (w .1) ∙ depends-skip _ _ _ _ (c .before .before .loop .inv .1) _ (omega arith) (bit-is-not _ _ (w .0 .left)) y)
+      (λ w. ap (bit y) (w .2) ∙ depends-more _ _ _ _ _ (c .before .before .loop .inv .1) (bit-is _ _ (w .0 .taken)) y)
+      (λ w. ap (bit y) (w .1) ∙ depends-skip _ _ _ _ _ (c .before .before .loop .inv .1) (bit-is-not _ _ (w .0 .left)) y)
       (c .if1 .came),
 )
 
 -- src/lib.rt:47:1
 returns : tie.Need-returns Inv-loop μ-loop
-returns c = depends-whole _ _ _ _ (omega arith) (c .before .loop .inv .1)
+returns c = depends-whole _ _ _ _ _ _ (c .before .loop .inv .0) (c .loop-test .left) (c .before .loop .inv .1)
 
 pub depends-row-spec : {M : Type 1} → statement M
 depends-row-spec =
@@ -75,7 +77,8 @@ depends-row-spec =
     add-if1
     cast-if1
     shr-if1
-    filler-mask-requires
+    mul-mask
+    shared-slice-read-mask
     add-k
     loop-less
     loop-again

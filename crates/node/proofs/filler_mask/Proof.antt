@@ -7,7 +7,7 @@ use Prim.Native.Nat.{ℕ, _+_, _-_, _≤_, _<_}
 use native.Mathlib.Omega.{arith}
 use lib.ListN.{length, getD, length-set}
 use Rattle.el.specs.Test.{anyBelow, allBelow, bit}
-use Rattle.node.specs.Node.{nodeOf, Masks, isAmong, dependsTo, rowOf, Direct, Paths, Shows, noCycle, reachedTo, SaysReady}
+use Rattle.node.specs.Node.{nodeOf, Clean, Masks, isAmong, leftTo, dependsBy, rowOf, Direct, Paths, Closes, Shows, Squares, noCycle, settledBy, leadsBy}
 use Rattle.node.specs.MaskLaws.{bit-is, bit-is-not}
 use borrow.Author.Needs.{needs}
 use Rattle.node.proofs.filler_mask.Statement.{statement}

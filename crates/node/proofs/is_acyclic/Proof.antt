@@ -6,7 +6,7 @@ use Prim.Native.Nat.{ℕ, _+_, _-_, _≤_, _<_}
 use native.Mathlib.Omega.{arith}
 use lib.ListN.{length, getD, length-set}
 use Rattle.el.specs.Test.{anyBelow, allBelow, bit}
-use Rattle.node.specs.Node.{Masks, isAmong, dependsTo, rowOf, Direct, Paths, Shows, noCycle, SaysReady}
+use Rattle.node.specs.Node.{nodeOf, Clean, Masks, isAmong, leftTo, dependsBy, rowOf, Direct, Paths, Closes, Shows, Squares, noCycle, settledBy, leadsBy}
 use Rattle.node.specs.MaskLaws.{bit-is, bit-is-not}
 use Rattle.node.specs.SquareLaws.{no-cycle-start, no-cycle-more, no-cycle-whole, no-cycle-not}
 use borrow.Author.Needs.{needs}

@@ -1,4 +1,4 @@
-use Rattle.node.specs.SquareLaws.{length-node, square-shows}
+use Rattle.node.specs.SquareLaws.{square-shows}
 use mathlib.Core.Path.{_≡_, refl, sym, ap, ap₂, subst, _∙_}
 use mathlib.Core.Bool.{Bool, true, false, _&&_, _||_, not}
 use mathlib.Core.Logic.{⊎-elim}
@@ -7,7 +7,7 @@ use Prim.Native.Nat.{ℕ, _+_, _-_, _≤_, _<_}
 use native.Mathlib.Omega.{arith}
 use lib.ListN.{length, getD, length-set}
 use Rattle.el.specs.Test.{anyBelow, allBelow, bit}
-use Rattle.node.specs.Node.{nodeOf, Masks, isAmong, dependsTo, rowOf, Direct, Paths, Shows, noCycle, reachedTo, SaysReady}
+use Rattle.node.specs.Node.{nodeOf, Clean, Masks, isAmong, leftTo, dependsBy, dependsFrom, rowOf, Direct, Paths, Closes, Shows, Squares, noCycle, settledBy, leadsBy}
 use Rattle.node.specs.MaskLaws.{bit-is, bit-is-not}
 use borrow.Author.Needs.{needs}
 use Rattle.node.proofs.square_of.Statement.{statement}
@@ -17,21 +17,19 @@ use Rattle.node.proofs.square_of.Lts as lts
 use Rattle.node.proofs.close.Reads as close-reads
 use Rattle.node.proofs.direct_rows.Reads as direct-rows-reads
 
--- src/lib.rt:117:11
+-- src/lib.rt:114:11
 direct-rows-requires : tie.Need-direct-rows-requires
 direct-rows-requires c κs = search needs
 
--- src/lib.rt:117:5
+-- src/lib.rt:114:5
 close-requires : tie.Need-close-requires
 close-requires c κs = search needs
 
--- src/lib.rt:111:1
+-- src/lib.rt:110:1
 returns : tie.Need-returns
 returns c =
-    let s = c .before .before .before .args .sets in
-    let h : length (s .set) ≡ 12 = search needs in
-    let n : length (nodeOf s) ≡ s .chosen = length-node s (omega arith) in
-    square-shows _ (nodeOf s) (omega arith) _ _ _ (sym n) (c .before .direct-rows .ensures) (c .close .ensures)
+    let h : length (c .before .before .before .args .sets .set) ≡ 12 = search needs in
+    square-shows _ _ _ (c .before .before .before .args .sets) _ _ (c .before .before .before .pre .3) (omega arith) (c .before .direct-rows .ensures) (c .close .ensures)
 
 pub square-of-spec : {M : Type 1} → statement M
 square-of-spec = tie.close (tie.spec direct-rows-requires close-requires returns)

@@ -10,5 +10,16 @@ pub mod StepLaws
 pub mod FirstLaws
 pub mod TestLaws
 pub mod ReachLaws
+pub mod Conjuncts
+pub mod OrderLaws
 pub mod NodeLaws
 pub mod OutcomeLaws
+pub mod Rank
+pub mod InducedLaws
+pub mod Locality
+pub mod LocalityLaws
+pub mod Counting
+pub mod CountingLaws
+pub mod GrowthLaws
+pub mod Examples
+pub mod Instances

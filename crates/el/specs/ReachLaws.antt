@@ -1,5 +1,6 @@
 -- Dependence over one or more steps: the tests say what the statements say.
 --
+--   A ↔ B               == A gives B, and B gives A
 --   reaches-join        == two chains make one
 --   path-step           == one step is a path, whatever its inner variables may be
 --   path-join           == two paths meet in a variable that may be an inner one
@@ -13,19 +14,18 @@
 --   reaches-trans       == what is reached from what is reached
 --   acyclic-means       == the test `acyclic` says: no variable depends on itself over one or more steps
 --   depends-same, reaches-same, acyclic-same    == assignments that give the same sets
-use mathlib.Core.Path.{_≡_, refl, sym, ap, ap₂, subst, _∙_}
-use mathlib.Core.Bool.{Bool, true, false, _&&_, _||_, not}
-use mathlib.Core.Logic.{_⊎_, inl, inr}
-use mathlib.Core.List.{List, [], _∷_}
-use Prim.Native.Nat.{ℕ, zero, suc, _+_, _≤_, _<_}
+use mathlib.Core.Path.{_≡_, ap, ap₂, subst}
+use mathlib.Core.Bool.{Bool, _&&_, _||_, not}
+use mathlib.Core.Logic.{_⊎_, inl, inr, _↔_}
+use Prim.Native.Nat.{ℕ, zero, suc, _+_, _<_}
 use native.Mathlib.Omega.{arith}
 use native.Mathlib.Nat.{not-suc-le-zero}
 use native.Mathlib.Decide.{ℕ-discrete}
-use lib.Dec.{T, eqb, ltb, eqb→eq, ltb→lt, T-not, not-T}
+use lib.Dec.{T, ltb, eqb→eq, ltb→lt, T-not, not-T}
 use lib.ListN.{length}
-use Rattle.el.specs.Test.{anyBelow, allBelow, everyOf, bit}
-use Rattle.el.specs.TestLaws.{or-left, or-right, or-cases, and-make, and-left, and-right, anyBelow-found, anyBelow-same, allBelow-all, allBelow-at, allBelow-same, everyOf-at}
-use Rattle.el.specs.Table.{Filler, topF, constantF, variableF, Row, Line, Table, rowAt, fillerDeclared, rowDeclared, lineDeclared, declared}
+use Rattle.el.specs.Test.{anyBelow, everyOf, bit}
+use Rattle.el.specs.TestLaws.{or-left, or-right, or-cases, and-make, and-left, and-right, anyBelow-found, allBelow-all, allBelow-at, allBelow-same, everyOf-at}
+use Rattle.el.specs.Table.{Filler, topF, constantF, variableF, Table, rowAt, fillerDeclared, rowDeclared, lineDeclared, declared}
 use Rattle.el.specs.Assignment.{Assignment, setOf, isVariable, depends, Reaches, once, then, Acyclic, path, reaches, acyclic}
 
 ----------------------------------------------------------------------------------------------------
@@ -121,7 +121,7 @@ module _ (t : Table) (known : T (declared t)) (a : Assignment) where
   reaches-declared {x} {y} (once u) = depends-declared x y u
   reaches-declared (then u r) = reaches-declared r
 
-  pub reaches-means : (x y : ℕ) → (T (reaches t a x y) → Reaches (depends t a) x y) × (Reaches (depends t a) x y → T (reaches t a x y))
+  pub reaches-means : (x y : ℕ) → T (reaches t a x y) ↔ Reaches (depends t a) x y
   unfolding reaches
   reaches-means x y = (path-reaches (depends t a) (t .variables) x y, λ r. reaches-path (depends t a) (t .variables) depends-declared r)
 
@@ -131,7 +131,7 @@ module _ (t : Table) (known : T (declared t)) (a : Assignment) where
   pub reaches-trans : (x y z : ℕ) → T (reaches t a x y) → T (reaches t a y z) → T (reaches t a x z)
   reaches-trans x y z u w = reaches-means x z .1 (reaches-join (depends t a) (reaches-means x y .0 u) (reaches-means y z .0 w))
 
-  pub acyclic-means : (T (acyclic t a) → Acyclic t a) × (Acyclic t a → T (acyclic t a))
+  pub acyclic-means : T (acyclic t a) ↔ Acyclic t a
   unfolding acyclic Acyclic
   acyclic-means = (
     (λ u x r. T-not (reaches t a x x) (allBelow-at (t .variables) x (λ y. not (reaches t a y y)) u (reaches-declared r)) (reaches-means x x .1 r)),

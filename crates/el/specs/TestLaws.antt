@@ -11,15 +11,15 @@
 --   anyBelow-step, anyBelow-none            == no number passes: by one more, by all
 --   anyBelow-same                           == tests that agree below n
 --   allBelow-..                             == the same for every number below n
---   anyOf-.., everyOf-..                    == the same over a list, by places; `-append` over two lists; `everyOf-map` along an implication
---   bit-none                                == the number 0 has no bits
+--   anyOf-.., everyOf-..                    == the same over a list, by places; `-append` over two lists; `everyOf-map`, `everyOf-both` along an implication
+--   bit-none, bit-first, bit-next           == bits of 0, bit 0, and the bits after it
 use mathlib.Core.Path.{_≡_, refl, sym, ap, ap₂, subst, _∙_}
-use mathlib.Core.Bool.{Bool, true, false, _&&_, _||_, not}
+use mathlib.Core.Bool.{Bool, true, false, _&&_, _||_}
 use mathlib.Core.Logic.{_⊎_, inl, inr}
 use mathlib.Core.List.{List, [], _∷_, _++_}
-use Prim.Native.Nat.{ℕ, zero, suc, _+_, _-_, _^_, _/_, _%_, _≤_, _<_}
+use Prim.Native.Nat.{ℕ, zero, suc, _+_, _^_, _/_, _%_, _<_}
 use native.Mathlib.Omega.{arith}
-use native.Mathlib.Nat.{zero-div, not-suc-le-zero, le-of-suc-le-suc}
+use native.Mathlib.Nat.{zero-div, div-one, div-div-eq-div-mul, pow-succ', not-suc-le-zero, le-of-suc-le-suc}
 use native.Mathlib.Numerals.{add-one}
 use native.Mathlib.Decide.{ℕ-discrete}
 use lib.Dec.{T, eqb}
@@ -223,9 +223,26 @@ module _ {A : Type 0} (p q : A → Bool) where
   everyOf-map [] f t = tt
   everyOf-map (x ∷ l) f t = and-make (q x) (everyOf q l) (f x (and-left (p x) (everyOf p l) t)) (everyOf-map l f (and-right (p x) (everyOf p l) t))
 
+-- where a third test follows from two
+pub everyOf-both : {A : Type 0} (p q r : A → Bool) (l : List A) → ((x : A) → T (p x) → T (q x) → T (r x)) → T (everyOf p l) → T (everyOf q l) → T (everyOf r l)
+unfolding everyOf
+everyOf-both p q r [] f s t = tt
+everyOf-both p q r (x ∷ l) f s t =
+    and-make (r x) (everyOf r l)
+    (f x (and-left (p x) (everyOf p l) s) (and-left (q x) (everyOf q l) t))
+    (everyOf-both p q r l f (and-right (p x) (everyOf p l) s) (and-right (q x) (everyOf q l) t))
+
 ----------------------------------------------------------------------------------------------------
 -- Bits
 
 pub bit-none : (i : ℕ) → bit i 0 ≡ false
 unfolding bit
 bit-none i = ap (λ (k : ℕ). eqb (k % 2) 1) (zero-div (2 ^ i))
+
+pub bit-first : (s : ℕ) → bit 0 s ≡ eqb (s % 2) 1
+unfolding bit
+bit-first s = ap (λ (k : ℕ). eqb (k % 2) 1) (div-one s)
+
+pub bit-next : (i s : ℕ) → bit (suc i) s ≡ bit i (s / 2)
+unfolding bit
+bit-next i s = ap (λ (k : ℕ). eqb (k % 2) 1) (ap (λ (k : ℕ). s / k) (pow-succ' 2 i) ∙ sym (div-div-eq-div-mul s 2 (2 ^ i)))

@@ -307,26 +307,25 @@ module _ (s : List ℕ) (h : Header) where
   unfolding readLine
   line-left at l w = pass-if _ _ _ _ _ (lt-leb (length s) at l) (stop-if _ _ _ _ (lt-ltb maxLeft (byteAt s at) w))
 
-  module _ (at : ℕ) (l : at < length s) (few : byteAt s at ≤ maxLeft) where
+  module _ (at : ℕ) where
     abbrev thenRight : List Entry → ℕ → Read Line
     thenRight left next = andThen (readEntry s h next) (λ right end. got (record { left = left; right = right }) end)
 
-    line-entries : (z : Step) → stepOf (andThen (readEntries s h (byteAt s at) (at + 1)) thenRight) ≡ z → z ≡ stepOf (readLine s h at)
+    line-entries : (z : Step) → at < length s → byteAt s at ≤ maxLeft → stepOf (andThen (readEntries s h (byteAt s at) (at + 1)) thenRight) ≡ z → z ≡ stepOf (readLine s h at)
     unfolding readLine
-    line-entries z q = pass-if _ _ _ _ z (lt-leb (length s) at l) (pass-if _ _ _ _ z (le-ltb maxLeft (byteAt s at) few) (sym q))
+    line-entries z l few q = pass-if _ _ _ _ z (lt-leb (length s) at l) (pass-if _ _ _ _ z (le-ltb maxLeft (byteAt s at) few) (sym q))
 
-    module _ (count : ℕ) (same : count ≡ byteAt s at) where
-      counted : stepOf (readEntries s h (byteAt s at) (at + 1)) ≡ stepOf (readEntries s h count (at + 1))
-      counted = ap (λ (k : ℕ). stepOf (readEntries s h k (at + 1))) (sym same)
+    counted : (count : ℕ) → count ≡ byteAt s at → stepOf (readEntries s h (byteAt s at) (at + 1)) ≡ stepOf (readEntries s h count (at + 1))
+    counted count same = ap (λ (k : ℕ). stepOf (readEntries s h k (at + 1))) (sym same)
 
-      pub line-stop : (n p : ℕ) → stepOf (readEntries s h count (at + 1)) ≡ Stop n p → Stop n p ≡ stepOf (readLine s h at)
-      line-stop n p q = line-entries _ (then-stop (readEntries s h (byteAt s at) (at + 1)) thenRight n p (counted ∙ q))
+    pub line-stop : (count n p : ℕ) → stepOf (readEntries s h count (at + 1)) ≡ Stop n p → at < length s → count ≡ byteAt s at → byteAt s at ≤ maxLeft → Stop n p ≡ stepOf (readLine s h at)
+    line-stop count n p q l same few = line-entries _ l few (then-stop (readEntries s h (byteAt s at) (at + 1)) thenRight n p (counted count same ∙ q))
 
-      pub line-right : (next : ℕ) → stepOf (readEntries s h count (at + 1)) ≡ Next next → stepOf (readEntry s h next) ≡ stepOf (readLine s h at)
-      line-right next q =
-          line-entries _
-          (then-next (readEntries s h (byteAt s at) (at + 1)) thenRight next (stepOf (readEntry s h next)) (counted ∙ q)
-          (λ left. then-last (readEntry s h next) (λ right. record { left = left; right = right })))
+    pub line-right : (count next : ℕ) → stepOf (readEntries s h count (at + 1)) ≡ Next next → at < length s → count ≡ byteAt s at → byteAt s at ≤ maxLeft → stepOf (readEntry s h next) ≡ stepOf (readLine s h at)
+    line-right count next q l same few =
+        line-entries _ l few
+        (then-next (readEntries s h (byteAt s at) (at + 1)) thenRight next (stepOf (readEntry s h next)) (counted count same ∙ q)
+        (λ left. then-last (readEntry s h next) (λ right. record { left = left; right = right })))
 
   ---------------------------------------------------------------- loops
 

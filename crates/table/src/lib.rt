@@ -104,7 +104,8 @@ pub fn entry_ok(code: u8, c: u8, e: u8, v: u8) -> bool
     }
 }
 
-fn wide(x: u8) -> usize
+// A byte as a place or a count.
+pub fn wide(x: u8) -> usize
     ensures { λ r. ⌜ r ≡ x ⌝ }
 {
     x as usize
@@ -131,10 +132,12 @@ pub fn read_header(table: &[u8]) -> Step
     if table.len() < HEADER {
         return Step::Stop(ENDS_EARLY, table.len());
     }
-    if !has_mark(table) {
+    let mark = has_mark(table);
+    let version = is_version_one(table);
+    if !mark {
         return Step::Stop(WRONG_MARK, 0);
     }
-    if !is_version_one(table) {
+    if !version {
         return Step::Stop(WRONG_VERSION, 3);
     }
     if MAX_ROLES < table[ROLES] {

@@ -22,10 +22,10 @@ wide-requires : tie.Need-wide-requires Inv-loop μ-loop
 wide-requires c κs = search needs
 
 mul-at : tie.Need-mul-at Inv-loop μ-loop
-mul-at c = omega (arith, c .wide .ensures, c .before .shared-slice-known2 .given 8)
+mul-at c = omega (arith, c .before .shared-slice-known2 .given 8)
 
 add-at : tie.Need-add-at Inv-loop μ-loop
-add-at c = omega (arith, c .wide .ensures, c .before .shared-slice-known2 .given 8)
+add-at c = omega (arith, c .before .shared-slice-known2 .given 8)
 
 loop-holds : tie.Need-loop-holds Inv-loop μ-loop
 loop-holds c = (omega arith, start-first _ (c .before .before .before .pre .0) _ (c .wide .ensures))
@@ -37,10 +37,10 @@ wide-requires-2 : tie.Need-wide-requires-2 Inv-loop μ-loop
 wide-requires-2 c κs = search needs
 
 add-at-2 : tie.Need-add-at-2 Inv-loop μ-loop
-add-at-2 c = omega (arith, c .wide2 .ensures, start-room _ (c .before .before .before .before .before .before .before .pre .0) _ _ (c .before .before .before .loop .inv .1) (omega arith))
+add-at-2 c = omega (arith, start-room _ (c .before .before .before .before .before .before .before .pre .0) _ _ (c .before .before .before .loop .inv .1) (omega arith))
 
 add-at-3 : tie.Need-add-at-3 Inv-loop μ-loop
-add-at-3 c = omega (arith, c .wide2 .ensures, start-room _ (c .before .before .before .before .before .before .before .pre .0) _ _ (c .before .before .before .loop .inv .1) (omega arith))
+add-at-3 c = omega (arith, start-room _ (c .before .before .before .before .before .before .before .pre .0) _ _ (c .before .before .before .loop .inv .1) (omega arith))
 
 add-i : tie.Need-add-i Inv-loop μ-loop
 add-i c = omega arith

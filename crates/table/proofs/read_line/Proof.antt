@@ -16,7 +16,7 @@ wide-requires : tie.Need-wide-requires
 wide-requires c κs = search needs
 
 returns-2 : tie.Need-returns-2
-returns-2 c = line-left _ _ _ (omega arith) (omega (arith, c .before .wide .ensures))
+returns-2 c = line-left _ _ _ (omega arith) (omega arith)
 
 add-read-entries : tie.Need-add-read-entries
 add-read-entries c = search needs
@@ -34,10 +34,10 @@ enum-known-number : tie.Need-enum-known-number
 enum-known-number c = search needs
 
 returns-3 : tie.Need-returns-3
-returns-3 c = c .read-entry .ensures ∙ line-right _ _ _ (omega arith) (omega (arith, c .before .before .before .before .before .before .wide .ensures)) _ (c .before .before .before .before .before .before .wide .ensures) _ (sym (c .before .before .before .before .read-entries .ensures) ∙ c .before .before .next .given .1)
+returns-3 c = c .read-entry .ensures ∙ line-right _ _ _ _ _ (sym (c .before .before .before .before .read-entries .ensures) ∙ c .before .before .next .given .1) (omega arith) (omega arith) (omega arith)
 
 returns-4 : tie.Need-returns-4
-returns-4 c = line-stop _ _ _ (omega arith) (omega (arith, c .before .before .before .before .before .wide .ensures)) _ (c .before .before .before .before .before .wide .ensures) _ _ (sym (c .before .before .before .read-entries .ensures) ∙ c .before .number .given .1)
+returns-4 c = line-stop _ _ _ _ _ _ (sym (c .before .before .before .read-entries .ensures) ∙ c .before .number .given .1) (omega arith) (omega arith) (omega arith)
 
 pub read-line-spec : {M : Type 1} → statement M
 read-line-spec =

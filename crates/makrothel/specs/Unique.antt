@@ -1,0 +1,37 @@
+-- What the promises of the public calls pin: two results that meet a promise on the same input are equal.
+--
+--   read-unique == of the reader: number, place and the five counts
+--   line-unique == of the line call: the contents of the part
+--   line-length == a line that is there has p + 2 bytes
+use mathlib.Core.Path.{_≡_, sym, ap, subst, _∙_}
+use mathlib.Core.Bool.{Bool, true, false, _&&_, cond}
+use mathlib.Core.List.{List, []}
+use Prim.Native.Nat.{ℕ, _+_, _≤_, _<_}
+use native.Mathlib.Omega.{arith}
+use lib.Dec.{T, ltb}
+use lib.ListN.{length, take, drop, length-drop}
+use lib.Seq.{length-take-le}
+use borrow.Author.Tests.{lt-ltb}
+use Rattle.table.specs.Reading.{byteAt, reading, isReadable}
+use Rattle.table.specs.Layout.{lineStart}
+use Rattle.table.specs.LayoutLaws.{layout}
+use Rattle.makrothel.specs.declared.ReadAnswer.{ReadAnswer}
+use Rattle.makrothel.specs.Answer.{readAnswer, linePart}
+
+pub read-unique : (s : List ℕ) (a b : ReadAnswer) → a ≡ readAnswer (reading s) → b ≡ readAnswer (reading s) → a ≡ b
+read-unique s a b p q = p ∙ sym q
+
+pub line-unique : (s : List ℕ) (n : ℕ) (a b : List ℕ) → a ≡ linePart s n → b ≡ linePart s n → a ≡ b
+line-unique s n a b p q = p ∙ sym q
+
+pub line-length : (s : List ℕ) (n : ℕ) → T (isReadable (reading s)) → n < byteAt s 9 → length (linePart s n) ≡ byteAt s (lineStart s n) + 2
+unfolding linePart
+line-length s n ok h = go (isReadable (reading s)) ok (ltb n (byteAt s 9)) (lt-ltb n (byteAt s 9) h)
+  where
+    there : lineStart s n + byteAt s (lineStart s n) + 2 ≤ length s
+    there = layout s ok .line-in n h
+
+    go : (x : Bool) → T x → (y : Bool) → y ≡ true → length (cond (x && y) (take (byteAt s (lineStart s n) + 2) (drop (lineStart s n) s)) []) ≡ byteAt s (lineStart s n) + 2
+    go true t true e = length-take-le (byteAt s (lineStart s n) + 2) (drop (lineStart s n) s) (simp length-drop (omega (arith, there)))
+    go true t false e = let z : _≡_ {A = ℕ} 0 1 = cc in absurd (let w : ⊥ = omega arith in w)
+    go false t y e = absurd t

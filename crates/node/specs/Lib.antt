@@ -4,3 +4,5 @@ pub mod CodeLaws
 pub mod SquareLaws
 pub mod ReadyLaws
 pub mod LineLaws
+pub mod DeadLaws
+pub mod NodeTestLaws

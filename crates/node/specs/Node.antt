@@ -23,19 +23,25 @@
 --   noCycle rows n     == no variable below n leads to itself in the square
 --   settledBy rows n x y == y is below x, and its mask has no bit from n on
 --   leadsBy rows z x y == y is below x and leads to z
+--   failsTo t s n      == one of the first n lines fails at the node s
+--   LiveAbove t s      == the node above s is live
+--   NodeGiven s c e v m sets == s is a readable table with these counts, and the sets are a node of it
+--   LineTest s c e v n at sets own k == so, with line n that begins at the byte `at` and the masks of its variables and of the settled ones
+--   LinesGiven s c e v m sets mask start k == so, the node is acyclic, the masks and starts are those of the lines, k is the mask of the settled variables
 use mathlib.Core.Path.{_≡_}
-use mathlib.Core.Bool.{Bool, _&&_, not}
-use mathlib.Core.List.{List}
+use mathlib.Core.Bool.{Bool, false, _&&_, not}
+use mathlib.Core.List.{List, [], _∷_, _++_}
 use mathlib.Core.Option.{Option, some}
 use Prim.Native.Nat.{ℕ, _+_, _/_, _^_, _≤_, _<_}
-use lib.Dec.{eqb, ltb}
+use lib.Dec.{T, eqb, ltb}
 use lib.ListN.{length, getD, take}
 use Rattle.el.specs.Test.{anyBelow, allBelow, anyOf, bit}
+use Rattle.el.specs.Description.{sameRole}
 use Rattle.el.specs.Table.{Entry, Row, Line, Table, rowAt}
-use Rattle.el.specs.Assignment.{isVariable, path, reaches}
-use Rattle.el.specs.Walk.{Node, entriesVariables, lineVariables}
+use Rattle.el.specs.Assignment.{isVariable, path, reaches, acyclic}
+use Rattle.el.specs.Walk.{Node, entriesVariables, lineVariables, settled, fails, dead}
 use Rattle.table.specs.Code.{entryOf}
-use Rattle.table.specs.Reading.{byteAt, tableOf, maxAtoms, maxLines}
+use Rattle.table.specs.Reading.{byteAt, reading, isReadable, tableOf, maxAtoms, maxLines}
 use Rattle.table.specs.Layout.{lineAt, lineStart}
 use Rattle.node.specs.declared.Sets.{Sets}
 
@@ -116,3 +122,40 @@ settledBy rows n x y = ltb y x && eqb (rowOf rows y / 2 ^ n) 0
 
 unfoldable pub leadsBy : List ℕ → ℕ → ℕ → ℕ → Bool
 leadsBy rows z x y = ltb y x && bit z (rowOf rows y)
+
+unfoldable pub failsTo : Table → Node → ℕ → Bool
+failsTo t s n = anyBelow n (λ i. fails sameRole t s (lineAt (t .lines) i))
+
+unfoldable pub LiveAbove : Table → Node → Type 0
+LiveAbove t s = (p : Node) (x : ℕ) → s ≡ p ++ (x ∷ []) → dead sameRole t p ≡ false
+
+pub record NodeGiven (s : List ℕ) (c e v m : ℕ) (sets : Sets) : Type 0 where
+  pub readable : T (isReadable (reading s))
+  pub constants : c ≡ byteAt s 5
+  pub restrictions : e ≡ byteAt s 8
+  pub variables : v ≡ byteAt s 7
+  pub lines : m ≡ byteAt s 9
+  pub chosen : sets .chosen ≤ v
+  pub clean : Clean sets
+
+pub record LineTest (s : List ℕ) (c e v n at : ℕ) (sets : Sets) (own k : ℕ) : Type 0 where
+  pub readable : T (isReadable (reading s))
+  pub constants : c ≡ byteAt s 5
+  pub restrictions : e ≡ byteAt s 8
+  pub variables : v ≡ byteAt s 7
+  pub clean : Clean sets
+  pub straight : T (acyclic (tableOf s) (nodeOf sets))
+  pub line : n < byteAt s 9
+  pub begins : at ≡ lineStart s n
+  pub owns : Masks (isAmong (lineVariables (tableOf s .rows) (lineAt (tableOf s .lines) n))) own
+  pub settled : Masks (settled (tableOf s) (nodeOf sets)) k
+
+pub record LinesGiven (s : List ℕ) (c e v m : ℕ) (sets : Sets) (mask start : List ℕ) (k : ℕ) : Type 0 where
+  pub node : NodeGiven s c e v m sets
+  pub straight : T (acyclic (tableOf s) (nodeOf sets))
+  pub masks : LineMasks (tableOf s) m mask
+  pub starts : LineStarts s m start
+  pub few-lines : m ≤ maxLines
+  pub mask-room : length mask ≡ maxLines
+  pub start-room : length start ≡ maxLines
+  pub settled : Masks (settled (tableOf s) (nodeOf sets)) k

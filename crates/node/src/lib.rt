@@ -4,12 +4,13 @@ ghost use mathlib.Core.Path.{_≡_};
 ghost use mathlib.Core.Option.{some};
 ghost use Prim.Native.Nat.{_+_, _≤_, _<_};
 ghost use lib.ListN.{length};
+ghost use Rattle.el.specs.Description.{sameRole};
 ghost use Rattle.el.specs.Table.{Entry, rowAt};
 ghost use Rattle.el.specs.Assignment.{isVariable};
-ghost use Rattle.el.specs.Walk.{entryVariables, lineVariables};
+ghost use Rattle.el.specs.Walk.{entryVariables, lineVariables, fails, dead};
 ghost use Rattle.table.specs.Reading.{byteAt, tableOf};
 ghost use Rattle.table.specs.Layout.{Layout, lineAt, lineStart};
-ghost use Rattle.node.specs.Node.{Clean, Masks, isAmong, dependsBy, dependsFrom, FillMasks, LineMasks, LineStarts, Prepares, entryAs, IsEntry, Direct, Closes, Squares, noCycle, settledBy, leadsBy};
+ghost use Rattle.node.specs.Node.{Clean, Masks, isAmong, dependsBy, dependsFrom, FillMasks, LineMasks, LineStarts, Prepares, entryAs, IsEntry, Direct, Closes, Squares, noCycle, settledBy, leadsBy, nodeOf, failsTo, NodeGiven, LineTest, LinesGiven};
 
 // One set number for each variable, and how many variables are chosen.
 pub struct Sets {
@@ -251,4 +252,69 @@ fn leads_mask(square: Square, n: usize, z: usize) -> u32
         x += 1;
     }
     mask
+}
+
+// Whether line n, whose variables are `own`, is ready and fails.
+fn line_fails(
+    table: &[u8],
+    c: usize,
+    e: usize,
+    v: usize,
+    n: usize,
+    at: usize,
+    sets: Sets,
+    own: u32,
+    settled: u32,
+) -> bool
+    requires { ⌜ LineTest (now table) c e v n at sets own settled ⌝ }
+    ensures { λ r. ⌜ r ≡ fails sameRole (tableOf (now (table .entry))) (nodeOf sets) (lineAt (tableOf (now (table .entry)) .lines) n) ⌝ }
+{
+    if (own & settled) != own {
+        return false;
+    }
+    let set = sets.set;
+    !order::line_holds(table, &set, c, e, v, n, at)
+}
+
+// Whether one of the lines is ready and fails.
+fn some_fails(
+    table: &[u8],
+    mask: &[u32],
+    start: &[usize],
+    c: usize,
+    e: usize,
+    v: usize,
+    m: usize,
+    sets: Sets,
+    settled: u32,
+) -> bool
+    requires { ⌜ LinesGiven (now table) c e v m sets (now mask) (now start) settled ⌝ }
+    ensures { λ r. ⌜ r ≡ failsTo (tableOf (now (table .entry))) (nodeOf sets) m ⌝ }
+{
+    let mut n: usize = 0;
+    while n < m {
+        if line_fails(table, c, e, v, n, start[n], sets, mask[n], settled) {
+            return true;
+        }
+        n += 1;
+    }
+    false
+}
+
+// Whether the node is dead: its chosen sets are cyclic, or else a ready line fails.
+pub fn is_dead(table: &[u8], c: usize, e: usize, v: usize, m: usize, sets: Sets) -> bool
+    requires { ⌜ NodeGiven (now table) c e v m sets ⌝ }
+    ensures { λ r. ⌜ r ≡ dead sameRole (tableOf (now (table .entry))) (nodeOf sets) ⌝ }
+{
+    let prepared = prepare(table, e, m);
+    let fill = prepared.fill;
+    let k = sets.chosen;
+    let square = square_of(&fill, c, e, sets);
+    if !is_acyclic(square, k) {
+        return true;
+    }
+    let settled = settled_mask(square, k);
+    let mask = prepared.mask;
+    let start = prepared.start;
+    some_fails(table, &mask, &start, c, e, v, m, sets, settled)
 }

@@ -294,7 +294,7 @@ module _ (s : List ℕ) (h : Header) where
 
 ------------------------------------------------------------------ what was read is declared
 
-within-some : {A : Type 0} (k n : ℕ) (a x : A) → within k n a ≡ some x → (k < n) × (a ≡ x)
+pub within-some : {A : Type 0} (k n : ℕ) (a x : A) → within k n a ≡ some x → (k < n) × (a ≡ x)
 unfolding within
 within-some k n a x q = go (ltb k n) refl q
   where

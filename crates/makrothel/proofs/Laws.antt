@@ -7,7 +7,7 @@
 --   line-over     == there is no line m or more
 --   line-room     == a line lies inside its table
 --   line-there    == the part that is line n
-use mathlib.Core.Path.{_≡_, refl, sym, ap, subst, _∙_}
+use mathlib.Core.Path.{_≡_, refl, sym, ap, _∙_}
 use mathlib.Core.Bool.{Bool, true, false, _&&_, cond}
 use mathlib.Core.List.{List, []}
 use Prim.Native.Nat.{ℕ, _+_, _-_, _≤_, _<_}
@@ -15,14 +15,11 @@ use native.Mathlib.Omega.{arith}
 use lib.Dec.{T, ltb}
 use lib.ListN.{length, take, drop}
 use borrow.Author.Tests.{lt-ltb, le-ltb}
-use Rattle.el.specs.Table.{Table}
-use Rattle.table.specs.declared.Verdict.{Verdict}
 use Rattle.table.specs.declared.Verdict.the-variants.{Refused, Readable}
-use Rattle.table.specs.Reading.{byteAt, Header, headerOf, Reading, refusal, readable, reading, isReadable}
+use Rattle.table.specs.Reading.{byteAt, Header, Reading, refusal, readable, reading, isReadable}
 use Rattle.table.specs.Step.{verdictOf}
 use Rattle.table.specs.Layout.{lineStart}
 use Rattle.table.specs.LayoutLaws.{layout, readable-header}
-use Rattle.makrothel.specs.declared.ReadAnswer.{ReadAnswer}
 use Rattle.makrothel.specs.Answer.{readAnswer, linePart}
 
 refused-readable : (n p : ℕ) → Refused n p ≡ Readable → ⊥

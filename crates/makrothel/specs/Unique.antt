@@ -3,7 +3,7 @@
 --   read-unique == of the reader: number, place and the five counts
 --   line-unique == of the line call: the contents of the part
 --   line-length == a line that is there has p + 2 bytes
-use mathlib.Core.Path.{_≡_, sym, ap, subst, _∙_}
+use mathlib.Core.Path.{_≡_, sym, _∙_}
 use mathlib.Core.Bool.{Bool, true, false, _&&_, cond}
 use mathlib.Core.List.{List, []}
 use Prim.Native.Nat.{ℕ, _+_, _≤_, _<_}

@@ -19,8 +19,8 @@ use lib.ListN.{length, getD, take, set, replicate}
 use lib.Seq.{getD-set-same, getD-set-other, take-set-le}
 use Rattle.el.specs.Description.{sameRole}
 use Rattle.el.specs.Table.{Table, atoms}
-use lib.Dec.{eqb}
-use lib.Pow.{pow-lt}
+use lib.Dec.{T, eqb}
+use lib.Pow.{pow-lt, pow-mono}
 use borrow.Author.Tests.{eq-eqb, ne-eqb}
 use lib.ListN.{length-take}
 use lib.Seq.{length-take-le}
@@ -28,7 +28,7 @@ use Rattle.el.specs.Walk.{Node, dead, full, ends, Outcome, solved, nothing, bud
 use Rattle.el.specs.ScanLaws.{scan, scan-end, scan-spent, scan-solved, scan-on, scan-means}
 use Rattle.el.specs.StepLaws.{remaining, afterwards, remaining-start, remaining-dead, remaining-full, remaining-down, remaining-first, afterwards-hit, afterwards-miss, afterwards-end}
 use Rattle.node.specs.declared.Sets.{Sets}
-use Rattle.table.specs.Reading.{byteAt, tableOf}
+use Rattle.table.specs.Reading.{byteAt, reading, isReadable, tableOf}
 use Rattle.table.specs.Layout.{Layout}
 use Rattle.table.specs.LayoutLaws.{layout}
 use Rattle.node.specs.Node.{nodeOf, Clean, NodeGiven}
@@ -166,6 +166,21 @@ module _ (s : List ℕ) (c e v m last : ℕ) (given : Given s c e v m last) wher
         readable = given .readable; constants = given .constants; restrictions = given .restrictions; variables = given .variables; lines = given .lines;
         chosen = given-chosen (sets .set) (sets .chosen) sound; clean = unfold SoundAt Clean in sound .1
       }
+
+-- the counts, read off the table's bytes
+pub given-table : (s : List ℕ) (c e v m last : ℕ) → T (isReadable (reading s)) → c ≡ byteAt s 5 → v ≡ byteAt s 7 → e ≡ byteAt s 8 → m ≡ byteAt s 9 → last + 1 ≡ 2 ^ (c + e) → Given s c e v m last
+given-table s c e v m last ok hc hv he hm hl =
+    record {
+      readable = ok; constants = hc; restrictions = he; variables = hv; lines = hm;
+      width = ap (λ (n : ℕ). 2 ^ n) count ∙ sym hl;
+      narrow = let h : 2 ^ (c + e) ≤ 2 ^ 24 = pow-mono few in omega arith
+    }
+  where
+    few : c + e ≤ 24
+    few = let f : byteAt s 5 + byteAt s 8 ≤ 24 = layout s ok .few-atoms in omega arith
+
+    count : atoms (tableOf s) ≡ c + e
+    count = unfold atoms in (let a = layout s ok .constants in let b = layout s ok .rows in omega arith)
 
 -- the root
 pub zeros : (n x : ℕ) → getD (replicate n 0) x 0 ≡ 0

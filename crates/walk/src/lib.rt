@@ -142,12 +142,6 @@ fn walk_from_root(
     }
 }
 
-fn wide(x: u8) -> usize
-    ensures { λ r. ⌜ r ≡ x ⌝ }
-{
-    x as usize
-}
-
 // The last set number over n atoms.
 fn last_set(n: usize) -> u32
     requires { ⌜ n ≤ 24 ⌝ }
@@ -161,10 +155,10 @@ pub fn walk(table: &[u8], budget: u32) -> Walked
     requires { ⌜ T (isReadable (reading (now table))) ⌝ }
     ensures { λ r. ⌜ (outcomeOf r ≡ outcome sameRole (tableOf (now (table .entry))) budget) × (r .sets .chosen ≤ byteAt (now (table .entry)) 7) ⌝ }
 {
-    let c = wide(table[5]);
-    let v = wide(table[7]);
-    let e = wide(table[8]);
-    let m = wide(table[9]);
+    let c = table::wide(table[table::CONSTANTS]);
+    let v = table::wide(table[table::VARIABLES]);
+    let e = table::wide(table[table::RESTRICTIONS]);
+    let m = table::wide(table[table::LINES]);
     let last = last_set(c + e);
     walk_from_root(table, c, e, v, m, last, budget)
 }

@@ -183,7 +183,7 @@ given-table s c e v m last ok hc hv he hm hl =
     count = unfold atoms in (let a = layout s ok .constants in let b = layout s ok .rows in omega arith)
 
 -- the root
-pub zeros : (n x : ℕ) → getD (replicate n 0) x 0 ≡ 0
+pub zeros : (n x : ℕ) → _≡_ {A = ℕ} (getD (replicate n 0) x 0) 0
 zeros zero x = refl
 zeros (suc n) zero = refl
 zeros (suc n) (suc x) = zeros n x

@@ -1,4 +1,7 @@
+-- `makrothel::finish` meets its contract: a law for each end of the walk.
 use borrow.Author.Needs.{needs}
+use Rattle.makrothel.specs.Solve.{answered}
+use Rattle.makrothel.proofs.Laws.{finish-found, finish-nothing, finish-spent}
 use Rattle.makrothel.proofs.finish.Statement.{statement}
 use Rattle.makrothel.proofs.finish.Tie as tie
 use Rattle.makrothel.proofs.finish.Reads as reads
@@ -27,15 +30,18 @@ same-length c = search needs
 
 -- src/lib.rt:82:1
 returns : tie.Need-returns
-returns c = ?
+unfolding answered
+returns c = finish-found (c .before .before .before .before .before .before .before .before .before .args .walked) _ _ (c .before .before .before .before .before .before .enum-told .given .1) (c .before .before .put-all .ensures)
 
 -- src/lib.rt:82:1
 returns-2 : tie.Need-returns-2
-returns-2 c = ?
+unfolding answered
+returns-2 c = finish-nothing (c .before .before .before .args .walked) _ (c .enum-told2 .given .1)
 
 -- src/lib.rt:82:1
 returns-3 : tie.Need-returns-3
-returns-3 c = ?
+unfolding answered
+returns-3 c = finish-spent (c .before .before .before .args .walked) _ (c .enum-told3 .given .1)
 
 pub finish-spec : {M : Type 1} → statement M
 finish-spec =

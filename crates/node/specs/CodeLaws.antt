@@ -8,7 +8,7 @@
 --   entry-bare, entry-variable, entry-row == the variables of an entry, by the kind of its code
 --   entry-fits, entry-row-in == they, and the restriction, are declared
 use mathlib.Core.Path.{_≡_, refl, sym, ap, subst, _∙_}
-use mathlib.Core.Bool.{Bool, true, false, _||_, cond}
+use mathlib.Core.Bool.{Bool, true, false, cond}
 use mathlib.Core.List.{List, [], _∷_}
 use mathlib.Core.Option.{Option, none, some}
 use Prim.Native.Nat.{ℕ, _*_, _%_, _^_, _<_}

@@ -9,24 +9,22 @@
 --   line-test        == the test of one of the lines
 --   old-line         == below a live node, a line that neither has nor reaches the newest variable does not fail
 --   skip-line        == the same, by masks
-use mathlib.Core.Path.{_≡_, refl, sym, ap, ap₂, subst, _∙_}
+use mathlib.Core.Path.{_≡_, refl, sym, ap, subst, _∙_}
 use mathlib.Core.Bool.{Bool, true, false, _&&_, _||_, not}
-use mathlib.Core.Logic.{_⊎_, inl, inr}
 use mathlib.Core.List.{List, [], _∷_, _++_}
 use Prim.Native.Nat.{ℕ, suc, _+_, _-_, _≤_, _<_}
 use native.Mathlib.Omega.{arith}
-use native.Mathlib.Decide.{ℕ-discrete}
-use lib.Dec.{T, eqb, T-not, eqb→eq, eqb-refl}
+use lib.Dec.{T, eqb}
 use lib.ListN.{length, getD, take, length-append}
 use lib.Seq.{take-suc, take-length, length-take-le}
 use lib.Bits.{bitAnd}
 use borrow.Author.Tests.{eq-eqb, ne-eqb}
-use Rattle.el.specs.Test.{anyBelow, anyOf, everyOf, bit}
-use Rattle.el.specs.TestLaws.{is-true, is-false, true-is, false-not, same-test, or-left, or-right, or-cases, and-make, and-left, and-right, anyBelow-hit, anyBelow-found, anyBelow-step, anyBelow-true-at, anyBelow-false-at, anyOf-hit, anyOf-found, everyOf-all}
+use Rattle.el.specs.Test.{anyBelow, anyOf}
+use Rattle.el.specs.TestLaws.{is-false, true-is, false-not, same-test, or-left, or-right, and-make, and-left, and-right, anyBelow-hit, anyBelow-found, anyBelow-step, anyBelow-true-at, anyBelow-false-at, anyOf-hit, anyOf-found, everyOf-all}
 use Rattle.el.specs.Description.{sameRole}
 use Rattle.el.specs.Table.{constant, Line, Table, declared}
 use Rattle.el.specs.Meaning.{holds}
-use Rattle.el.specs.Assignment.{Assignment, setOf, depends, reaches, acyclic, induced}
+use Rattle.el.specs.Assignment.{Assignment, setOf, reaches, acyclic, induced}
 use Rattle.el.specs.ReachLaws.{reaches-means, acyclic-same}
 use Rattle.el.specs.InducedLaws.{induced-same}
 use Rattle.el.specs.Walk.{Node, lineVariables, settled, ready, fails, dead}

@@ -24,7 +24,7 @@ use Rattle.table.specs.Reading.{byteAt, tableOf}
 use Rattle.table.specs.Layout.{Layout, lineAt}
 use Rattle.table.specs.LayoutLaws.{layout}
 use Rattle.node.specs.declared.Sets.{Sets}
-use Rattle.node.specs.Node.{nodeOf, Clean, Masks, FillMasks, Fills, LineMasks, LineStarts, Prepares, Shows, Squares, noCycle, settledBy, leadsBy, failsTo, Newest, LiveAbove, NodeGiven, LinesGiven}
+use Rattle.node.specs.Node.{nodeOf, Clean, Masks, FillMasks, LineMasks, LineStarts, Prepares, Shows, Squares, noCycle, settledBy, leadsBy, failsTo, Newest, LiveAbove, NodeGiven, LinesGiven}
 use Rattle.node.specs.MaskLaws.{masks-or}
 use Rattle.node.specs.CodeLaws.{eqb-comm, mask-one}
 use Rattle.node.specs.SquareLaws.{length-node, acyclic-shown}

@@ -1,13 +1,14 @@
 -- What the codes of a readable table say of variables.
 --
 --   isBare k           == the kind k is of an entry or a filler without a variable
+--   eqb-comm           == equal, either way round
 --   mask-one           == the mask of one variable
 --   filler-bare, filler-never, filler-variable == the variables of a filler, by the kind of its code
 --   filler-fits        == they are declared
 --   entry-bare, entry-variable, entry-row == the variables of an entry, by the kind of its code
 --   entry-fits, entry-row-in == they, and the restriction, are declared
 use mathlib.Core.Path.{_≡_, refl, sym, ap, subst, _∙_}
-use mathlib.Core.Bool.{Bool, true, false, _||_, cond}
+use mathlib.Core.Bool.{Bool, true, false, cond}
 use mathlib.Core.List.{List, [], _∷_}
 use mathlib.Core.Option.{Option, none, some}
 use Prim.Native.Nat.{ℕ, _*_, _%_, _^_, _<_}
@@ -40,7 +41,7 @@ within-some k n a b = go (ltb k n) refl
     go true e q = (ltb-true k n e, (cc))
     go false e q = absurd (let z : _≡_ {A = ℕ} 0 1 = cc in omega arith)
 
-eqb-comm : (a b : ℕ) → eqb a b ≡ eqb b a
+pub eqb-comm : (a b : ℕ) → eqb a b ≡ eqb b a
 eqb-comm a b =
     same-test (eqb a b) (eqb b a) (λ t. subst T (sym (eq-eqb b a (sym (eqb→eq a b t)))) tt) (λ t. subst T (sym (eq-eqb a b (sym (eqb→eq b a t)))) tt)
 

@@ -8,23 +8,23 @@
 --   test-given, test-not, test-ready == what the test of a line is given and answers
 --   line-test        == the test of one of the lines
 --   old-line         == below a live node, a line that neither has nor reaches the newest variable does not fail
-use mathlib.Core.Path.{_≡_, refl, sym, ap, ap₂, subst, _∙_}
+--   skip-line        == the same, by masks
+use mathlib.Core.Path.{_≡_, refl, sym, ap, subst, _∙_}
 use mathlib.Core.Bool.{Bool, true, false, _&&_, _||_, not}
-use mathlib.Core.Logic.{_⊎_, inl, inr}
 use mathlib.Core.List.{List, [], _∷_, _++_}
-use Prim.Native.Nat.{ℕ, suc, _+_, _≤_, _<_}
+use Prim.Native.Nat.{ℕ, suc, _+_, _-_, _≤_, _<_}
 use native.Mathlib.Omega.{arith}
-use native.Mathlib.Decide.{ℕ-discrete}
-use lib.Dec.{T, eqb, T-not, eqb→eq, eqb-refl}
-use lib.ListN.{length, getD, length-append}
+use lib.Dec.{T, eqb}
+use lib.ListN.{length, getD, take, length-append}
+use lib.Seq.{take-suc, take-length, length-take-le}
 use lib.Bits.{bitAnd}
 use borrow.Author.Tests.{eq-eqb, ne-eqb}
-use Rattle.el.specs.Test.{anyBelow, anyOf, everyOf, bit}
-use Rattle.el.specs.TestLaws.{is-true, is-false, true-is, false-not, same-test, or-left, or-right, or-cases, and-make, and-left, and-right, anyBelow-hit, anyBelow-found, anyBelow-step, anyBelow-true-at, anyBelow-false-at, anyOf-hit, anyOf-found, everyOf-all}
+use Rattle.el.specs.Test.{anyBelow, anyOf}
+use Rattle.el.specs.TestLaws.{is-false, true-is, false-not, same-test, or-left, or-right, and-make, and-left, and-right, anyBelow-hit, anyBelow-found, anyBelow-step, anyBelow-true-at, anyBelow-false-at, anyOf-hit, anyOf-found, everyOf-all}
 use Rattle.el.specs.Description.{sameRole}
 use Rattle.el.specs.Table.{constant, Line, Table, declared}
 use Rattle.el.specs.Meaning.{holds}
-use Rattle.el.specs.Assignment.{Assignment, setOf, depends, reaches, acyclic, induced}
+use Rattle.el.specs.Assignment.{Assignment, setOf, reaches, acyclic, induced}
 use Rattle.el.specs.ReachLaws.{reaches-means, acyclic-same}
 use Rattle.el.specs.InducedLaws.{induced-same}
 use Rattle.el.specs.Walk.{Node, lineVariables, settled, ready, fails, dead}
@@ -33,10 +33,10 @@ use Rattle.table.specs.Layout.{lineAt}
 use Rattle.table.specs.Reading.{tableOf}
 use Rattle.order.specs.Given.{LineGiven}
 use Rattle.node.specs.declared.Sets.{Sets}
-use Rattle.node.specs.Node.{nodeOf, Masks, isAmong, LineMasks, LineStarts, failsTo, LineTest, LinesGiven}
+use Rattle.node.specs.Node.{nodeOf, Masks, isAmong, LineMasks, LineStarts, failsTo, Newest, LiveAbove, LineTest, LinesGiven}
 use Rattle.node.specs.SquareLaws.{set-node}
 use Rattle.node.specs.LineLaws.{in-lines}
-use Rattle.node.specs.ReadyLaws.{ready-by, every-among, among-every}
+use Rattle.node.specs.ReadyLaws.{ready-by, none-by, every-among, among-every}
 
 ----------------------------------------------------------------------------------------------------
 -- The lines one by one
@@ -190,3 +190,24 @@ module _ (t : Table) (known : T (declared t)) (p : Node) (x : ℕ) where
       (and-make (ready t p l) (not (holds sameRole (t .rows) (induced t p) l)) r
       (subst (λ (b : Bool). T (not b)) (sym (holds-stays t known p (x ∷ []) sameRole l r))
       (and-right (ready t child l) (not (holds sameRole (t .rows) (induced t child) l)) u))))
+
+last-split : (s : Node) → 0 < length s → s ≡ take (length s - 1) s ++ (getD s (length s - 1) 0 ∷ [])
+last-split s h =
+    sym (take-length s) ∙ ap (λ (k : ℕ). take k s) (let z : length s ≡ suc (length s - 1) = omega arith in z)
+    ∙ take-suc s (length s - 1) 0 (omega arith)
+
+-- the same, by masks
+pub skip-line : (t : Table) → T (declared t) → (s : Node) (about own i : ℕ) → LiveAbove t s → 0 < length s → Newest t s about
+    → Masks (isAmong (lineVariables (t .rows) (lineAt (t .lines) i))) own → i < length (t .lines) → bitAnd own about ≡ 0
+    → fails sameRole t s (lineAt (t .lines) i) ≡ false
+unfolding LiveAbove Newest
+skip-line t known s about own i live h newest is l e =
+    let p = take (length s - 1) s in
+    let x = getD s (length s - 1) 0 in
+    let q : s ≡ p ++ (x ∷ []) = last-split s h in
+    let n : length p ≡ length s - 1 = length-take-le (length s - 1) s (omega arith) in
+    subst (λ (u : Node). fails sameRole t u (lineAt (t .lines) i) ≡ false) (sym q)
+    (old-line t known p x (live p x q) i l
+    (λ y w r. none-by (λ z. eqb z (length s - 1) || reaches t s z (length s - 1)) (lineVariables (t .rows) (lineAt (t .lines) i)) own about is newest e y w
+    (subst (λ (u : Node). T (eqb y (length s - 1) || reaches t u y (length s - 1))) (sym q)
+    (subst (λ (k : ℕ). T (eqb y k || reaches t (p ++ (x ∷ [])) y k)) n r))))

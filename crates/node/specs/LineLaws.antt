@@ -11,7 +11,7 @@
 --   line-start          == a line begins inside the table
 use mathlib.Core.Path.{_≡_, sym, ap, subst, _∙_}
 use mathlib.Core.List.{List}
-use mathlib.Core.Option.{Option, some}
+use mathlib.Core.Option.{some}
 use Prim.Native.Nat.{ℕ, _+_, _*_, _≤_, _<_}
 use native.Mathlib.Omega.{arith}
 use native.Mathlib.Nat.{not-suc-le-zero}
@@ -19,7 +19,7 @@ use native.Mathlib.Decide.{ℕ-discrete}
 use native.Mathlib.Numerals.{add-one}
 use lib.ListN.{length, getD, set}
 use lib.Seq.{getD-set-same, getD-set-other}
-use Rattle.el.specs.Table.{Entry, constant, Row, Table, rowAt}
+use Rattle.el.specs.Table.{constant, Row, Table, rowAt}
 use Rattle.el.specs.Assignment.{isVariable}
 use Rattle.el.specs.Walk.{lineVariables}
 use Rattle.table.specs.Reading.{byteAt, tableOf}

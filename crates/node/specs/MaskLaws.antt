@@ -13,14 +13,14 @@
 --   masks-none      == the mask 0 has no bits
 --   masks-or        == a mask joined to another
 --   masks-same      == the same mask under a test that agrees
-use mathlib.Core.Path.{_≡_, refl, sym, ap, ap₂, subst, _∙_}
-use mathlib.Core.Bool.{Bool, true, false, _&&_, _||_, not}
+use mathlib.Core.Path.{_≡_, refl, sym, ap, ap₂, _∙_}
+use mathlib.Core.Bool.{Bool, true, false, _&&_, _||_}
 use Prim.Native.Nat.{ℕ, zero, suc, _+_, _-_, _*_, _/_, _%_, _^_, _≤_, _<_, min, max}
 use native.Mathlib.Omega.{arith}
-use native.Mathlib.Nat.{mod-lt, div-self, div-eq-of-lt, mul-div-cancel-left, one-mul, pow-suc, div-one, div-div-eq-div-mul, pow-succ', mul-mod-left}
+use native.Mathlib.Nat.{div-self, div-eq-of-lt, mul-div-cancel-left, one-mul, pow-suc, div-one, div-div-eq-div-mul, pow-succ', mul-mod-left}
 use native.Mathlib.Decide.{ℕ-discrete, decLt}
 use borrow.Author.Tests.{eq-eqb, ne-eqb, eqb-false}
-use lib.Dec.{T, eqb}
+use lib.Dec.{eqb}
 use lib.Arith.{bin-ind}
 use lib.Bits.{bitOr, bitAnd, or-shr, or-step, and-shr, and-step}
 use lib.Pow.{pow-pos, pow-lt, pow-add, shl-exact, shr-shr}

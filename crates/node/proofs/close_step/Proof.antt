@@ -1,19 +1,14 @@
-use Rattle.node.specs.SquareLaws.{Closing, closing-start, closing-whole, closing-more, closing-skip}
-use mathlib.Core.Path.{_≡_, refl, sym, ap, ap₂, subst, _∙_}
-use mathlib.Core.Bool.{Bool, true, false, _&&_, _||_, not}
+-- `node::close_step` meets its contract. The invariant: the rows below x have the inner variable j, the others not yet (`Closing`); a path into j or out of j need not pass j, so rows may be changed in place. The measure is what is left of n.
+use mathlib.Core.Path.{_≡_, sym, ap, subst, _∙_}
 use mathlib.Core.Logic.{⊎-elim}
-use mathlib.Core.List.{List}
-use Prim.Native.Nat.{ℕ, _+_, _-_, _≤_, _<_}
+use Prim.Native.Nat.{_-_, _≤_}
 use native.Mathlib.Omega.{arith}
-use lib.ListN.{length, getD, length-set}
-use Rattle.el.specs.Test.{anyBelow, allBelow, bit}
-use Rattle.node.specs.Node.{nodeOf, Clean, Masks, isAmong, leftTo, dependsBy, rowOf, Direct, Paths, Closes, Shows, Squares, noCycle, settledBy, leadsBy}
-use Rattle.node.specs.MaskLaws.{bit-is, bit-is-not}
 use borrow.Author.Needs.{needs}
+use lib.ListN.{length, length-set}
+use Rattle.node.specs.SquareLaws.{Closing, closing-start, closing-whole, closing-more, closing-skip}
+use Rattle.node.specs.MaskLaws.{bit-is, bit-is-not}
 use Rattle.node.proofs.close_step.Statement.{statement}
 use Rattle.node.proofs.close_step.Tie as tie
-use Rattle.node.proofs.close_step.Reads as reads
-use Rattle.node.proofs.close_step.Lts as lts
 
 abbrev Inv-loop : tie.InvT-loop
 Inv-loop n j row₀ x₀ row x = (x ≤ n) × (length row ≡ 12) × Closing row₀ j n x row
@@ -21,51 +16,39 @@ Inv-loop n j row₀ x₀ row x = (x ≤ n) × (length row ≡ 12) × Closing row
 abbrev μ-loop : tie.MeasureT-loop
 μ-loop n j row₀ x₀ row x = n - x
 
--- src/lib.rt:89:5
 loop-holds : tie.Need-loop-holds Inv-loop μ-loop
 loop-holds c = (omega arith, search needs, closing-start _ _ _)
 
--- src/lib.rt:90:19
 mul-own : tie.Need-mul-own Inv-loop μ-loop
 mul-own c = search needs
 
--- src/lib.rt:90:19
 array-read-own : tie.Need-array-read-own Inv-loop μ-loop
 array-read-own c = search needs
 
--- src/lib.rt:91:20
 cast-if1 : tie.Need-cast-if1 Inv-loop μ-loop
 cast-if1 c = search needs
 
--- src/lib.rt:91:13
 shr-if1 : tie.Need-shr-if1 Inv-loop μ-loop
 shr-if1 c = search needs
 
--- src/lib.rt:92:28
 mul-row : tie.Need-mul-row Inv-loop μ-loop
 mul-row c = search needs
 
--- src/lib.rt:92:28
 array-read-row : tie.Need-array-read-row Inv-loop μ-loop
 array-read-row c = search needs
 
--- src/lib.rt:92:13
 mul-row-2 : tie.Need-mul-row-2 Inv-loop μ-loop
 mul-row-2 c = search needs
 
--- src/lib.rt:92:13
 array-write-row : tie.Need-array-write-row Inv-loop μ-loop
 array-write-row c = search needs
 
--- src/lib.rt:94:9
 add-x : tie.Need-add-x Inv-loop μ-loop
 add-x c = search needs
 
--- src/lib.rt:89:5
 loop-less : tie.Need-loop-less Inv-loop μ-loop
 loop-less c = search needs
 
--- src/lib.rt:89:5
 loop-again : tie.Need-loop-again Inv-loop μ-loop
 loop-again c = (
   omega arith,
@@ -76,7 +59,6 @@ loop-again c = (
       (c .if1 .came),
 )
 
--- src/lib.rt:82:1
 returns : tie.Need-returns Inv-loop μ-loop
 returns c = closing-whole _ _ _ _ _ (c .before .loop .inv .0) (c .loop-test .left) (c .before .loop .inv .2)
 

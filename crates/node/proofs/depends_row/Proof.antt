@@ -1,19 +1,15 @@
-use Rattle.node.specs.SquareLaws.{depends-start, depends-more, depends-skip, depends-whole}
-use mathlib.Core.Path.{_≡_, refl, sym, ap, ap₂, subst, _∙_}
-use mathlib.Core.Bool.{Bool, true, false, _&&_, _||_, not}
+-- `node::depends_row` meets its contract. The invariant: the mask has what the first k restrictions lead to; the measure is what is left of e.
+use mathlib.Core.Path.{ap, _∙_}
 use mathlib.Core.Logic.{⊎-elim}
-use mathlib.Core.List.{List}
-use Prim.Native.Nat.{ℕ, _+_, _-_, _≤_, _<_}
+use Prim.Native.Nat.{_-_, _≤_}
 use native.Mathlib.Omega.{arith}
-use lib.ListN.{length, getD, length-set}
-use Rattle.el.specs.Test.{anyBelow, allBelow, bit}
-use Rattle.node.specs.Node.{nodeOf, Clean, Masks, isAmong, leftTo, dependsBy, rowOf, Direct, Paths, Closes, Shows, Squares, noCycle, settledBy, leadsBy}
-use Rattle.node.specs.MaskLaws.{bit-is, bit-is-not}
 use borrow.Author.Needs.{needs}
+use Rattle.el.specs.Test.{bit}
+use Rattle.node.specs.SquareLaws.{depends-start, depends-more, depends-skip, depends-whole}
+use Rattle.node.specs.Node.{Masks, dependsBy}
+use Rattle.node.specs.MaskLaws.{bit-is, bit-is-not}
 use Rattle.node.proofs.depends_row.Statement.{statement}
 use Rattle.node.proofs.depends_row.Tie as tie
-use Rattle.node.proofs.depends_row.Reads as reads
-use Rattle.node.proofs.depends_row.Lts as lts
 
 abbrev Inv-loop : tie.InvT-loop
 Inv-loop fill c e set mask₀ k₀ mask k = (k ≤ e) × Masks (dependsBy fill c set k) mask
@@ -21,39 +17,30 @@ Inv-loop fill c e set mask₀ k₀ mask k = (k ≤ e) × Masks (dependsBy fill c
 abbrev μ-loop : tie.MeasureT-loop
 μ-loop fill c e set mask₀ k₀ mask k = e - k
 
--- src/lib.rt:53:5
 loop-holds : tie.Need-loop-holds Inv-loop μ-loop
 loop-holds c = (omega arith, depends-start _ _ _)
 
--- src/lib.rt:54:21
 add-if1 : tie.Need-add-if1 Inv-loop μ-loop
 add-if1 c = search needs
 
--- src/lib.rt:54:21
 cast-if1 : tie.Need-cast-if1 Inv-loop μ-loop
 cast-if1 c = search needs
 
--- src/lib.rt:54:13
 shr-if1 : tie.Need-shr-if1 Inv-loop μ-loop
 shr-if1 c = search needs
 
--- src/lib.rt:55:27
 mul-mask : tie.Need-mul-mask Inv-loop μ-loop
 mul-mask c = search needs
 
--- src/lib.rt:55:27
 shared-slice-read-mask : tie.Need-shared-slice-read-mask Inv-loop μ-loop
 shared-slice-read-mask c = search needs
 
--- src/lib.rt:57:9
 add-k : tie.Need-add-k Inv-loop μ-loop
 add-k c = search needs
 
--- src/lib.rt:53:5
 loop-less : tie.Need-loop-less Inv-loop μ-loop
 loop-less c = search needs
 
--- src/lib.rt:53:5
 loop-again : tie.Need-loop-again Inv-loop μ-loop
 loop-again c = (
   omega arith,
@@ -63,7 +50,6 @@ loop-again c = (
       (c .if1 .came),
 )
 
--- src/lib.rt:47:1
 returns : tie.Need-returns Inv-loop μ-loop
 returns c = depends-whole _ _ _ _ _ _ (c .before .loop .inv .0) (c .loop-test .left) (c .before .loop .inv .1)
 

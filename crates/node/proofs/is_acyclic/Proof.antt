@@ -1,19 +1,15 @@
-use mathlib.Core.Path.{_≡_, refl, sym, ap, ap₂, subst, _∙_}
-use mathlib.Core.Bool.{Bool, true, false, _&&_, _||_, not}
-use mathlib.Core.Logic.{⊎-elim}
-use mathlib.Core.List.{List}
-use Prim.Native.Nat.{ℕ, _+_, _-_, _≤_, _<_}
+-- `node::is_acyclic` meets its contract. The invariant: no variable below x leads to itself; the measure is what is left of n.
+use mathlib.Core.Path.{_≡_, sym}
+use mathlib.Core.Bool.{true}
+use Prim.Native.Nat.{_-_, _≤_}
 use native.Mathlib.Omega.{arith}
-use lib.ListN.{length, getD, length-set}
-use Rattle.el.specs.Test.{anyBelow, allBelow, bit}
-use Rattle.node.specs.Node.{nodeOf, Clean, Masks, isAmong, leftTo, dependsBy, rowOf, Direct, Paths, Closes, Shows, Squares, noCycle, settledBy, leadsBy}
+use borrow.Author.Needs.{needs}
+use lib.ListN.{length}
+use Rattle.node.specs.Node.{noCycle}
 use Rattle.node.specs.MaskLaws.{bit-is, bit-is-not}
 use Rattle.node.specs.SquareLaws.{no-cycle-start, no-cycle-more, no-cycle-whole, no-cycle-not}
-use borrow.Author.Needs.{needs}
 use Rattle.node.proofs.is_acyclic.Statement.{statement}
 use Rattle.node.proofs.is_acyclic.Tie as tie
-use Rattle.node.proofs.is_acyclic.Reads as reads
-use Rattle.node.proofs.is_acyclic.Lts as lts
 
 abbrev Inv-loop : tie.InvT-loop
 Inv-loop n row x₀ x = (x ≤ n) × (length row ≡ 12) × (noCycle row x ≡ true)
@@ -21,43 +17,33 @@ Inv-loop n row x₀ x = (x ≤ n) × (length row ≡ 12) × (noCycle row x ≡ t
 abbrev μ-loop : tie.MeasureT-loop
 μ-loop n row x₀ x = n - x
 
--- src/lib.rt:131:5
 loop-holds : tie.Need-loop-holds Inv-loop μ-loop
 loop-holds c = (omega arith, search needs, no-cycle-start _)
 
--- src/lib.rt:132:13
 mul-if1 : tie.Need-mul-if1 Inv-loop μ-loop
 mul-if1 c = search needs
 
--- src/lib.rt:132:13
 array-read-if1 : tie.Need-array-read-if1 Inv-loop μ-loop
 array-read-if1 c = search needs
 
--- src/lib.rt:132:23
 cast-if1 : tie.Need-cast-if1 Inv-loop μ-loop
 cast-if1 c = search needs
 
--- src/lib.rt:132:13
 shr-if1 : tie.Need-shr-if1 Inv-loop μ-loop
 shr-if1 c = search needs
 
--- src/lib.rt:133:13
 returns : tie.Need-returns Inv-loop μ-loop
 returns c = sym (no-cycle-not _ _ _ (omega arith) (bit-is _ _ (c .if1 .taken)))
 
--- src/lib.rt:135:9
 add-x : tie.Need-add-x Inv-loop μ-loop
 add-x c = search needs
 
--- src/lib.rt:131:5
 loop-less : tie.Need-loop-less Inv-loop μ-loop
 loop-less c = search needs
 
--- src/lib.rt:131:5
 loop-again : tie.Need-loop-again Inv-loop μ-loop
 loop-again c = (omega arith, search needs, no-cycle-more _ _ (c .before .before .loop .inv .2) (bit-is-not _ _ (c .if1 .left)))
 
--- src/lib.rt:125:1
 returns-2 : tie.Need-returns-2 Inv-loop μ-loop
 returns-2 c = sym (no-cycle-whole _ _ _ (c .before .loop .inv .0) (c .loop-test .left) (c .before .loop .inv .2))
 

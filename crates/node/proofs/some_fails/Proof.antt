@@ -1,22 +1,14 @@
-use Rattle.node.specs.DeadLaws.{fails-none, fails-more, fails-found, fails-whole, line-test}
-use Rattle.node.specs.Node.{failsTo}
-use Rattle.table.specs.Reading.{tableOf}
-use mathlib.Core.Path.{_≡_, refl, sym, ap, ap₂, subst, _∙_}
-use mathlib.Core.Bool.{Bool, true, false, _&&_, _||_, not}
-use mathlib.Core.Logic.{⊎-elim}
-use mathlib.Core.List.{List}
-use Prim.Native.Nat.{ℕ, _+_, _-_, _≤_, _<_}
+-- `node::some_fails` meets its contract. The invariant: none of the first n lines fails; the measure is what is left of m.
+use mathlib.Core.Path.{_≡_, sym, _∙_}
+use mathlib.Core.Bool.{false}
+use Prim.Native.Nat.{_-_, _≤_}
 use native.Mathlib.Omega.{arith}
-use lib.ListN.{length, getD, length-set}
-use Rattle.el.specs.Test.{anyBelow, allBelow, bit}
-use Rattle.node.specs.Node.{nodeOf, Clean, Masks, isAmong, leftTo, dependsBy, dependsFrom, rowOf, Direct, Paths, Closes, Shows, Squares, noCycle, settledBy, leadsBy}
-use Rattle.node.specs.MaskLaws.{bit-is, bit-is-not}
 use borrow.Author.Needs.{needs}
+use Rattle.table.specs.Reading.{tableOf}
+use Rattle.node.specs.DeadLaws.{fails-none, fails-more, fails-found, fails-whole, line-test}
+use Rattle.node.specs.Node.{failsTo, nodeOf}
 use Rattle.node.proofs.some_fails.Statement.{statement}
 use Rattle.node.proofs.some_fails.Tie as tie
-use Rattle.node.proofs.some_fails.Reads as reads
-use Rattle.node.proofs.some_fails.Lts as lts
-use Rattle.node.proofs.line_fails.Reads as line-fails-reads
 
 abbrev Inv-loop : tie.InvT-loop
 Inv-loop table mask start c e v m sets settled n₀ n = (n ≤ m) × (failsTo (tableOf table) (nodeOf sets) n ≡ false)
@@ -24,47 +16,36 @@ Inv-loop table mask start c e v m sets settled n₀ n = (n ≤ m) × (failsTo (t
 abbrev μ-loop : tie.MeasureT-loop
 μ-loop table mask start c e v m sets settled n₀ n = m - n
 
--- src/lib.rt:295:5
 loop-holds : tie.Need-loop-holds Inv-loop μ-loop
 loop-holds c = (omega arith, fails-none _ _)
 
--- src/lib.rt:296:42
 mul-line-fails : tie.Need-mul-line-fails Inv-loop μ-loop
 mul-line-fails c = omega arith
 
--- src/lib.rt:296:42
 shared-slice-read-line-fails : tie.Need-shared-slice-read-line-fails Inv-loop μ-loop
 shared-slice-read-line-fails c = omega arith
 
--- src/lib.rt:296:58
 mul-line-fails-2 : tie.Need-mul-line-fails-2 Inv-loop μ-loop
 mul-line-fails-2 c = omega arith
 
--- src/lib.rt:296:58
 shared-slice-read-line-fails-2 : tie.Need-shared-slice-read-line-fails-2 Inv-loop μ-loop
 shared-slice-read-line-fails-2 c = omega arith
 
--- src/lib.rt:296:12
 line-fails-requires : tie.Need-line-fails-requires Inv-loop μ-loop
 line-fails-requires c κs = line-test _ _ _ _ _ (c .before .before .before .before .before .before .before .args .sets) _ _ _ _ (c .before .before .before .before .before .before .before .pre) (c .before .before .loop-test .taken)
 
--- src/lib.rt:297:13
 returns : tie.Need-returns Inv-loop μ-loop
 returns c = sym (fails-found _ _ _ _ (c .before .before .before .before .loop-test .taken) (sym (c .before .line-fails .ensures) ∙ c .if1 .taken))
 
--- src/lib.rt:299:9
 add-n : tie.Need-add-n Inv-loop μ-loop
 add-n c = search needs
 
--- src/lib.rt:295:5
 loop-less : tie.Need-loop-less Inv-loop μ-loop
 loop-less c = search needs
 
--- src/lib.rt:295:5
 loop-again : tie.Need-loop-again Inv-loop μ-loop
 loop-again c = (omega arith, fails-more _ _ _ (c .before .before .before .before .before .loop .inv .1) (sym (c .before .line-fails .ensures) ∙ c .if1 .left))
 
--- src/lib.rt:280:1
 returns-2 : tie.Need-returns-2 Inv-loop μ-loop
 returns-2 c = sym (fails-whole _ _ _ _ (c .before .loop .inv .0) (c .loop-test .left) (c .before .loop .inv .1))
 

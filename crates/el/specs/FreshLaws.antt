@@ -1,11 +1,9 @@
--- At a child only what is new can fail: lines that have or reach the newest variable, and cycles through it.
+-- At a child only lines that have or reach the newest variable can fail.
 --
 --   touches t s y l  == the line l has the variable y, or a variable of it reaches y at the node s
 --   ready-before     == a line that is ready at a child and does not touch the newest variable is ready at the parent
 --   fresh-fails      == below a live parent a line that fails touches the newest variable
 --   dead-fresh       == so the test of a child need not look at other lines
---   cycle-new        == a cycle at the child of an acyclic parent goes through the newest variable
---   acyclic-fresh    == so the test of a child need not look for other cycles
 use mathlib.Core.Path.{_≡_, refl, sym, ap, ap₂, subst, _∙_}
 use mathlib.Core.Bool.{Bool, true, false, _&&_, _||_, not}
 use mathlib.Core.Logic.{_⊎_, inl, inr}
@@ -28,11 +26,11 @@ use Rattle.el.specs.NodeLaws.{set-stays, depends-stays, reaches-stays, a
 unfoldable pub touches : Table → Node → ℕ → Line → Bool
 touches t s y l = anyOf (λ x. eqb x y || reaches t s x y) (lineVariables (t .rows) l)
 
-abbrev childOf : Node → ℕ → Node
+abbrev pub childOf : Node → ℕ → Node
 childOf p x = p ++ (x ∷ [])
 
 module _ (t : Table) (known : T (declared t)) (p : Node) (x : ℕ) where
-  child-length : length (childOf p x) ≡ suc (length p)
+  pub child-length : length (childOf p x) ≡ suc (length p)
   child-length = length-append p (x ∷ []) ∙ (let q : length p + 1 ≡ suc (length p) = omega arith in q)
 
   -- a variable of a line that does not touch the newest one
@@ -63,7 +61,7 @@ module _ (t : Table) (known : T (declared t)) (p : Node) (x : ℕ) where
       (λ i k. let a = apart l i k n in settled-before (getD (lineVariables (t .rows) l) i 0) (everyOf-at (settled t (childOf p x)) (lineVariables (t .rows) l) i 0 h k) (a .0) (a .1))
 
   module _ (under : ℕ → ℕ → Bool) (live : dead under t p ≡ false) (round : acyclic t (childOf p x) ≡ true) where
-    parent-acyclic : acyclic t p ≡ true
+    pub parent-acyclic : acyclic t p ≡ true
     parent-acyclic = is-true (acyclic t p) (acyclic-stays t known p (x ∷ []) (true-is (acyclic t (p ++ (x ∷ []))) round))
 
     pub fresh-fails : (i : ℕ) → i < length (t .lines) → T (fails under t (childOf p x) (getD (t .lines) i noLine)) → T (touches t (childOf p x) (length p) (getD (t .lines) i noLine))
@@ -98,45 +96,3 @@ module _ (t : Table) (known : T (declared t)) (p : Node) (x : ℕ) where
         (λ i h. same-test (fails under t (childOf p x) (getD (t .lines) i noLine)) (touches t (childOf p x) (length p) (getD (t .lines) i noLine) && fails under t (childOf p x) (getD (t .lines) i noLine))
         (λ f. and-make (touches t (childOf p x) (length p) (getD (t .lines) i noLine)) (fails under t (childOf p x) (getD (t .lines) i noLine)) (fresh-fails i h f) f)
         (λ f. and-right (touches t (childOf p x) (length p) (getD (t .lines) i noLine)) (fails under t (childOf p x) (getD (t .lines) i noLine)) f))
-
-  -- cycles
-  from-parent : (z w : ℕ) → T (depends t (childOf p x) z w) → T (depends t p z w) ⊎ (z ≡ length p)
-  from-parent z w d = go (decLt z (length p)) (ℕ-discrete z (length p))
-    where
-      go : Dec (z < length p) → Dec (z ≡ length p) → T (depends t p z w) ⊎ (z ≡ length p)
-      go (yes h) e = inl (subst T (sym (depends-same t p (p ++ (x ∷ [])) z w (set-stays p (x ∷ []) z h))) d)
-      go (no h) (yes e) = inr e
-      go (no h) (no e) = absurd (false-not (depends t (childOf p x) z w) (depends-unchosen t known (childOf p x) [] z w (let c = child-length in omega arith)) d)
-
-  abbrev Through : ℕ → ℕ → Type 0
-  Through z w = Reaches (depends t (childOf p x)) (length p) w × ((z ≡ length p) ⊎ Reaches (depends t (childOf p x)) z (length p))
-
-  through : {z w : ℕ} → Reaches (depends t (childOf p x)) z w → Reaches (depends t p) z w ⊎ Through z w
-  through (once {x = z} {y = w} d) = elim (from-parent z w d) [ inl q ↦ inl (once q) | inr e ↦ inr (subst (λ (i : ℕ). Reaches (depends t (childOf p x)) i w) e (once d), inl e) ]
-  through (then {x = z} {y = u} {z = w} d r) = go (from-parent z u d) (through r)
-    where
-      go : T (depends t p z u) ⊎ (z ≡ length p) → Reaches (depends t p) u w ⊎ Through u w → Reaches (depends t p) z w ⊎ Through z w
-      go (inr e) q = inr (subst (λ (i : ℕ). Reaches (depends t (childOf p x)) i w) e (then d r), inl e)
-      go (inl c) (inl q) = inl (then c q)
-      go (inl c) (inr q) = inr (q .0, inr (elim (q .1) [ inl e ↦ subst (λ (i : ℕ). Reaches (depends t (childOf p x)) z i) e (once d) | inr e ↦ then d e ]))
-
-  pub cycle-new : T (acyclic t p) → (z : ℕ) → Reaches (depends t (childOf p x)) z z → Reaches (depends t (childOf p x)) (length p) (length p)
-  cycle-new a z r = go (through r)
-    where
-      round : (w : ℕ) → Reaches (depends t p) w w → ⊥
-      round = unfold Acyclic in acyclic-means t known p .0 a
-
-      go : Reaches (depends t p) z z ⊎ Through z z → Reaches (depends t (childOf p x)) (length p) (length p)
-      go (inl q) = absurd (round z q)
-      go (inr q) = elim (q .1) [ inl e ↦ subst (λ (i : ℕ). Reaches (depends t (childOf p x)) (length p) i) e (q .0) | inr e ↦ reaches-join (depends t (childOf p x)) (q .0) e ]
-
-  -- THE TEST OF A CHILD NEED NOT LOOK FOR CYCLES THAT DO NOT GO THROUGH THE NEWEST VARIABLE
-  pub acyclic-fresh : acyclic t p ≡ true → acyclic t (childOf p x) ≡ not (reaches t (childOf p x) (length p) (length p))
-  acyclic-fresh a =
-      same-test (acyclic t (childOf p x)) (not (reaches t (childOf p x) (length p) (length p)))
-      (λ h. not-T (reaches t (childOf p x) (length p) (length p)) (λ r. means h (length p) (reaches-means t known (childOf p x) (length p) (length p) .0 r)))
-      (λ h. acyclic-means t known (childOf p x) .1 (unfold Acyclic in λ z r. T-not (reaches t (childOf p x) (length p) (length p)) h
-      (reaches-means t known (childOf p x) (length p) (length p) .1 (cycle-new (true-is (acyclic t p) a) z r))))
-    where
-      means : T (acyclic t (childOf p x)) → (z : ℕ) → Reaches (depends t (childOf p x)) z z → ⊥
-      means h = unfold Acyclic in acyclic-means t known (childOf p x) .0 h

@@ -24,3 +24,4 @@ pub mod GrowthLaws
 pub mod Examples
 pub mod Instances
 pub mod FreshLaws
+pub mod ChildLaws

@@ -5,6 +5,7 @@
 --   next-sibling        == where it ends at a sibling
 --   next-none           == where no node is left
 --   looked-dead, looked-solved, looked-down == what examining a node finds
+--   sound-above     == a sound node has a live parent
 --   given-variables, given-node == what the table's counts give
 --   turn-solved, turn-on, turn-over == a node of the list, gone along
 --   walked-start, walked-found, walked-over, walked-on, walked-spent == a turn of the walk's loop
@@ -22,8 +23,8 @@ use Rattle.el.specs.Table.{Table, atoms}
 use lib.Dec.{T, eqb}
 use lib.Pow.{pow-lt, pow-mono}
 use borrow.Author.Tests.{eq-eqb, ne-eqb}
-use lib.ListN.{length-take}
-use lib.Seq.{length-take-le}
+use lib.ListN.{length-append}
+use lib.Seq.{length-take-le, take-append-seam, take-take}
 use Rattle.el.specs.Walk.{Node, dead, full, ends, Outcome, solved, nothing, budget, outcome, nodes}
 use Rattle.el.specs.ScanLaws.{scan, scan-end, scan-spent, scan-solved, scan-on, scan-means}
 use Rattle.el.specs.StepLaws.{remaining, afterwards, remaining-start, remaining-dead, remaining-full, remaining-down, remaining-first, afterwards-hit, afterwards-miss, afterwards-end}
@@ -31,7 +32,7 @@ use Rattle.node.specs.declared.Sets.{Sets}
 use Rattle.table.specs.Reading.{byteAt, reading, isReadable, tableOf}
 use Rattle.table.specs.Layout.{Layout}
 use Rattle.table.specs.LayoutLaws.{layout}
-use Rattle.node.specs.Node.{nodeOf, Clean, NodeGiven}
+use Rattle.node.specs.Node.{nodeOf, Clean, NodeGiven, LiveAbove}
 use Rattle.walk.specs.declared.Going.{Going}
 use Rattle.walk.specs.declared.Going.the-variants.{Solved, On, Over}
 use Rattle.walk.specs.Step.{SoundAt, rest, after, NextAs, LookedAs, Given}
@@ -163,17 +164,34 @@ module _ (s : List ℕ) (c e v m last : ℕ) (given : Given s c e v m last) wher
   pub given-node : (sets : Sets) → SoundAt (tableOf s) (sets .set) (sets .chosen) → NodeGiven s c e v m sets
   given-node sets sound =
       record {
-        readable = given .readable; constants = given .constants; restrictions = given .restrictions; variables = given .variables; lines = given .lines;
-        chosen = given-chosen (sets .set) (sets .chosen) sound; clean = unfold SoundAt Clean in sound .1
+        readable = given .readable;
+        constants = given .constants;
+        restrictions = given .restrictions;
+        variables = given .variables;
+        lines = given .lines;
+        chosen = given-chosen (sets .set) (sets .chosen) sound;
+        clean = unfold SoundAt Clean in sound .1;
       }
+
+-- a sound node has a live parent
+pub sound-above : (t : Table) (sets : Sets) → sets .chosen ≤ length (sets .set) → SoundAt t (sets .set) (sets .chosen) → LiveAbove t (nodeOf sets)
+unfolding SoundAt LiveAbove nodeOf
+sound-above t sets fits sound p x e =
+    let n : length p + 1 ≡ sets .chosen = sym (length-append p (x ∷ [])) ∙ ap length (sym e) ∙ length-take-le (sets .chosen) (sets .set) fits in
+    let q : p ≡ take (length p) (sets .set) = sym (take-append-seam p (x ∷ [])) ∙ ap (take (length p)) (sym e) ∙ take-take (length p) (sets .chosen) (sets .set) (omega arith) in
+    ap (dead sameRole t) q ∙ sound .2 (length p) (omega arith)
 
 -- the counts, read off the table's bytes
 pub given-table : (s : List ℕ) (c e v m last : ℕ) → T (isReadable (reading s)) → c ≡ byteAt s 5 → v ≡ byteAt s 7 → e ≡ byteAt s 8 → m ≡ byteAt s 9 → last + 1 ≡ 2 ^ (c + e) → Given s c e v m last
 given-table s c e v m last ok hc hv he hm hl =
     record {
-      readable = ok; constants = hc; restrictions = he; variables = hv; lines = hm;
+      readable = ok;
+      constants = hc;
+      restrictions = he;
+      variables = hv;
+      lines = hm;
       width = ap (λ (n : ℕ). 2 ^ n) count ∙ sym hl;
-      narrow = let h : 2 ^ (c + e) ≤ 2 ^ 24 = pow-mono few in omega arith
+      narrow = let h : 2 ^ (c + e) ≤ 2 ^ 24 = pow-mono few in omega arith;
     }
   where
     few : c + e ≤ 24

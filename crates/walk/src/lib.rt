@@ -7,6 +7,7 @@ ghost use Rattle.el.specs.Description.{sameRole};
 ghost use Rattle.el.specs.Table.{Table, atoms};
 ghost use Rattle.el.specs.Walk.{outcome};
 ghost use Rattle.table.specs.Reading.{byteAt, reading, isReadable, tableOf};
+ghost use Rattle.node.specs.Node.{Prepares};
 ghost use Rattle.walk.specs.Step.{Sound, Next, Looked, Given, outcomeOf};
 use node::Sets;
 
@@ -72,11 +73,23 @@ fn next_node(sets: Sets, last: u32) -> Step
 }
 
 // One node examined: dead, it is left; live and full, it ends the walk; live, it is followed by its first child.
-fn look(table: &[u8], c: usize, e: usize, v: usize, m: usize, sets: Sets, last: u32) -> Step
-    requires { ⌜ Given (now table) c e v m last × Sound (tableOf (now table)) sets ⌝ }
+fn look(
+    table: &[u8],
+    fill: &[u32],
+    mask: &[u32],
+    start: &[usize],
+    c: usize,
+    e: usize,
+    v: usize,
+    m: usize,
+    sets: Sets,
+    last: u32,
+) -> Step
+    requires { ⌜ Given (now table) c e v m last × Prepares (now table) (now fill) (now mask) (now start) ⌝ }
+    requires { ⌜ Sound (tableOf (now table)) sets ⌝ }
     ensures { λ r. ⌜ Looked (tableOf (now (table .entry))) sets r ⌝ }
 {
-    if node::is_dead(table, c, e, v, m, sets) {
+    if node::is_dead_child(table, fill, mask, start, c, e, v, m, sets) {
         return next_node(sets, last);
     }
     let k = sets.chosen;
@@ -105,6 +118,10 @@ fn walk_from_root(
     requires { ⌜ Given (now table) c e v m last ⌝ }
     ensures { λ r. ⌜ (outcomeOf r ≡ outcome sameRole (tableOf (now (table .entry))) budget) × (r .sets .chosen ≤ v) ⌝ }
 {
+    let prepared = node::prepare(table, e, m);
+    let fill = prepared.fill;
+    let mask = prepared.mask;
+    let start = prepared.start;
     let mut sets = Sets {
         set: [0u32; 12],
         chosen: 0,
@@ -112,7 +129,7 @@ fn walk_from_root(
     let mut count: u32 = 0;
     while count < budget {
         count += 1;
-        let step = look(table, c, e, v, m, sets, last);
+        let step = look(table, &fill, &mask, &start, c, e, v, m, sets, last);
         let next = step.sets;
         let going = step.going;
         match going {

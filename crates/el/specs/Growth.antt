@@ -1,7 +1,6 @@
 -- When one table grows from another, on tables.
 --
 --   Grows t u   == u grows from t
---   NewLines    == whether u has lines that t has not is read off the two lists of lines
 use mathlib.Core.Path.{_≡_}
 use mathlib.Core.List.{List, _++_}
 use Prim.Native.Nat.{ℕ, _≤_}

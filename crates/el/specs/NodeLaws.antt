@@ -22,51 +22,8 @@ use Rattle.el.specs.Meaning.{Substitution, fillerUnder, rowUnder, entryU
 use Rattle.el.specs.Assignment.{Assignment, setOf, depends, isVariable, Reaches, once, then, reaches, acyclic, atomUnder, conjoin, setUnder, inducedTo, induced, solves}
 use Rattle.el.specs.Walk.{Node, chosen, fillerVariables, entryVariables, entriesVariables, lineVariables, settled, ready, fails, dead, full, ends}
 use Rattle.el.specs.TestLaws.{is-true, is-false, true-is, false-not, same-test, or-cases, or-left, or-right, and-make, and-left, and-right, anyBelow-hit, anyBelow-found, anyBelow-none, allBelow-all, allBelow-at, anyOf-found, anyOf-hit, everyOf-at, everyOf-all, everyOf-append, bit-none}
+use Rattle.el.specs.InducedLaws.{setUnder-same}
 use Rattle.el.specs.ReachLaws.{depends-declared, reaches-declared, reaches-means, depends-reaches, reaches-trans, acyclic-means, depends-same}
-
-----------------------------------------------------------------------------------------------------
--- A set under two substitutions that agree where it leads
-
-conjoin-agree : (n : ℕ) (p : ℕ → Bool) (d e : ℕ → Description) → ((i : ℕ) → i < n → T (p i) → d i ≡ e i) → conjoin n p d ≡ conjoin n p e
-unfolding conjoin
-conjoin-agree zero p d e f = refl
-conjoin-agree (suc n) p d e f = go (p n) refl (conjoin-agree n p d e (λ i h. f i (omega arith)))
-  where
-    go : (b : Bool) → p n ≡ b → conjoin n p d ≡ conjoin n p e
-        → _≡_ {A = Description} (elim b [ true ↦ meet (conjoin n p d) (d n) | false ↦ conjoin n p d ]) (elim b [ true ↦ meet (conjoin n p e) (e n) | false ↦ conjoin n p e ])
-    go true q ih = ap₂ meet ih (f n (omega arith) (true-is (p n) q))
-    go false q ih = ih
-
-filler-agree : (σ τ : Substitution) (f : Filler) → ((y : ℕ) → T (isVariable y f) → σ y ≡ τ y) → fillerUnder σ f ≡ fillerUnder τ f
-filler-agree σ τ topF g = refl
-filler-agree σ τ (constantF k) g = refl
-filler-agree σ τ (variableF y) g = g y (eqb-refl y)
-
-atom-agree : (t : Table) (σ τ : Substitution) (i : ℕ)
-    → (t .constants ≤ i → (y : ℕ) → T (isVariable y (rowAt (t .rows) (i - t .constants) .filler)) → σ y ≡ τ y) → atomUnder t σ i ≡ atomUnder t τ i
-atom-agree t σ τ i g = go (decLt i (t .constants))
-  where
-    low : (ρ : Substitution) → i < t .constants → atomUnder t ρ i ≡ name i
-    low ρ h = unfold atomUnder in rw (lt-ltb i (t .constants) h, atomUnder)
-
-    high : (ρ : Substitution) → t .constants ≤ i → atomUnder t ρ i ≡ rowUnder ρ (rowAt (t .rows) (i - t .constants))
-    high ρ h = unfold atomUnder in rw (le-ltb i (t .constants) h, atomUnder)
-
-    go : Dec (i < t .constants) → atomUnder t σ i ≡ atomUnder t τ i
-    go (yes h) = low σ h ∙ sym (low τ h)
-    go (no h) =
-        let k : t .constants ≤ i = omega arith in
-        high σ k ∙ ap (some (rowAt (t .rows) (i - t .constants) .role)) (filler-agree σ τ (rowAt (t .rows) (i - t .constants) .filler) (g k)) ∙ sym (high τ k)
-
--- two substitutions that agree on what x depends on give x's set the same sense
-pub set-agree : (t : Table) (a : Assignment) (x : ℕ) (σ τ : Substitution) → ((y : ℕ) → T (depends t a x y) → σ y ≡ τ y) → setUnder t σ (setOf a x) ≡ setUnder t τ (setOf a x)
-unfolding setUnder atoms
-set-agree t a x σ τ f =
-    conjoin-agree (t .constants + length (t .rows)) (λ i. bit i (setOf a x)) (atomUnder t σ) (atomUnder t τ)
-    (λ i h b. atom-agree t σ τ i (λ k y is. f y (unfold depends in
-    anyBelow-hit (length (t .rows)) (i - t .constants) (λ j. bit (t .constants + j) (setOf a x) && isVariable y (rowAt (t .rows) j .filler)) (omega arith)
-    (and-make (bit (t .constants + (i - t .constants)) (setOf a x)) (isVariable y (rowAt (t .rows) (i - t .constants) .filler))
-    (let q : i ≡ t .constants + (i - t .constants) = omega arith in subst (λ (j : ℕ). T (bit j (setOf a x))) q b) is))))
 
 ----------------------------------------------------------------------------------------------------
 -- A line under two substitutions that agree on its variables
@@ -109,7 +66,7 @@ unfolding setOf
 set-unchosen s x h = List·getD-eq-default s 0 h
 
 module _ (t : Table) (known : T (declared t)) (s l : Node) where
-  depends-unchosen : (x y : ℕ) → length s ≤ x → depends t s x y ≡ false
+  pub depends-unchosen : (x y : ℕ) → length s ≤ x → depends t s x y ≡ false
   unfolding depends
   depends-unchosen x y h =
       anyBelow-none (length (t .rows)) (λ k. bit (t .constants + k) (setOf s x) && isVariable y (rowAt (t .rows) k .filler))
@@ -162,7 +119,7 @@ module _ (t : Table) (known : T (declared t)) (s l : Node) where
   unfolding inducedTo
   induced-stays zero x h = refl
   induced-stays (suc k) x h =
-      set-agree t s x (inducedTo t s k) (inducedTo t (s ++ l) k) (λ y d. induced-stays k y (settled-next x y h d))
+      setUnder-same t s x (inducedTo t s k) (inducedTo t (s ++ l) k) (λ y d. induced-stays k y (settled-next x y h d))
       ∙ ap (setUnder t (inducedTo t (s ++ l) k)) (set-stays s l x (settled-chosen x h))
 
   pub holds-stays : (under : ℕ → ℕ → Bool) (line : Line) → T (ready t s line) → holds under (t .rows) (induced t s) line ≡ holds under (t .rows) (induced t (s ++ l)) line
@@ -172,6 +129,10 @@ module _ (t : Table) (known : T (declared t)) (s l : Node) where
 ----------------------------------------------------------------------------------------------------
 -- Dead, and what ends the walk
 
+-- what stands for a line where there is none
+abbrev pub noLine : Line
+noLine = record { left = []; right = constant 0 }
+
 module _ (under : ℕ → ℕ → Bool) (t : Table) where
   pub dead-cyclic : (s : Node) → acyclic t s ≡ false → dead under t s ≡ true
   unfolding dead
@@ -180,9 +141,6 @@ module _ (under : ℕ → ℕ → Bool) (t : Table) where
   pub dead-lines : (s : Node) → acyclic t s ≡ true → dead under t s ≡ anyOf (fails under t s) (t .lines)
   unfolding dead
   dead-lines s e = rw (e, dead)
-
-  abbrev noLine : Line
-  noLine = record { left = []; right = constant 0 }
 
   module _ (known : T (declared t)) where
     -- NO NODE BELOW A DEAD ONE SOLVES

@@ -5,6 +5,7 @@
 --   remaining-start   == from the root it is the whole list
 --   remaining-dead, remaining-full == a dead or full node has nothing below it
 --   remaining-down    == a live node that is not full is followed by its first child
+--   remaining-first   == the first of them is the node itself
 --   afterwards-hit    == after a node comes its next sibling, where there is one
 --   afterwards-miss   == where there is none, what comes after the node above
 --   afterwards-end    == after the root comes nothing
@@ -66,6 +67,14 @@ module _ (under : ℕ → ℕ → Bool) (t : Table) where
   pub remaining-full : (a : List ℕ) (k : ℕ) → k ≡ t .variables → remaining a k ≡ take k a ∷ afterwards a k
   unfolding remaining
   remaining-full a k e = ap (λ (l : List Node). l ++ afterwards a k) (subtree-full (t .variables - k) (take k a) (omega arith))
+
+  pub remaining-first : (a : List ℕ) (k : ℕ) → (l : List Node) × (remaining a k ≡ take k a ∷ l)
+  unfolding remaining
+  remaining-first a k = go (t .variables - k)
+    where
+      go : (r : ℕ) → (l : List Node) × (subtree under t r (take k a) ++ afterwards a k ≡ take k a ∷ l)
+      go zero = (afterwards a k, unfold subtree in refl)
+      go (suc r) = (elim (dead under t (take k a)) [ true ↦ [] | false ↦ inTurn (2 ^ atoms t) 0 (λ x. subtree under t r (take k a ++ (x ∷ []))) ] ++ afterwards a k, unfold subtree in refl)
 
   -- what comes after depends on the sets above only
   siblings-set : (a : List ℕ) (i k y : ℕ) → k < i → siblings (set a i y) k ≡ siblings a k

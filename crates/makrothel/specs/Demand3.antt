@@ -1,0 +1,195 @@
+-- DEMAND 3: an answer survives growth.
+--
+--   demand-3-none     == "none" means that no descriptions of any depth, over any names, make every line true
+--   demand-3-grown    == no growth of a "none" table is ever "solved", under any budget and output
+--   demand-3-widened  == no growth without new lines of a "solved" table is ever "none"
+--   demand-3-budget   == a larger budget with enough room gives the same number, count, place and bytes
+use mathlib.Core.Path.{_≡_, refl, sym, ap, ap₂, subst, _∙_}
+use mathlib.Core.Bool.{Bool, true, false}
+use mathlib.Core.Logic.{_⊎_, inl, inr, _↔_}
+use mathlib.Core.List.{List}
+use Prim.Native.Nat.{ℕ, _+_, _*_, _≤_, _<_}
+use native.Mathlib.Omega.{arith}
+use native.Mathlib.Decide.{decLe}
+use lib.Dec.{T, eqb→eq, eqb, eqb-refl}
+use lib.ListN.{length, take, drop}
+use lib.Seq.{take-at}
+use Rattle.el.specs.Description.{sameRole}
+use Rattle.el.specs.Table.{Table, declared}
+use Rattle.el.specs.Meaning.{Substitution, makes}
+use Rattle.el.specs.Assignment.{Assignment, IsAssignment, Solves, induced}
+use Rattle.el.specs.Walk.{Outcome, solved, nothing, budget, outcome}
+use Rattle.el.specs.OutcomeLaws.{OutcomeSays, outcome-says, more-budget}
+use Rattle.el.specs.LocalityLaws.{locality, solving-substitution}
+use Rattle.el.specs.GrowthLaws.{growth-back, growth-same}
+use Rattle.table.specs.Reading.{Header, Reading, refusal, readable, reading, isReadable, tableOf}
+use Rattle.table.specs.LayoutLaws.{readable-header}
+use Rattle.output.specs.Written.{setBytes, written}
+use Rattle.output.proofs.Laws.{setBytes-length}
+use Rattle.makrothel.specs.RefusalLaws.{refusal-placed, refused-number}
+use Rattle.makrothel.specs.Solve.{Answered, refusedAs, outcomeAs, tableAs, readingAs, answer}
+use Rattle.makrothel.specs.Grown.{Grown, SameLines}
+use Rattle.makrothel.specs.GrownLaws.{grown-grows, grown-lines}
+use Rattle.makrothel.specs.Demand1.{answer-short}
+use Rattle.makrothel.specs.Demand2.{FirstSolving, NoneSolves, N, known, answer-outcome, demand-2-solved, demand-2-none}
+
+-- the role relation of version 1 is an order
+same-refl : (r : ℕ) → T (sameRole r r)
+unfolding sameRole
+same-refl r = eqb-refl r
+
+same-trans : (r s u : ℕ) → T (sameRole r s) → T (sameRole s u) → T (sameRole r u)
+unfolding sameRole
+same-trans r s u p q = subst (λ (x : ℕ). T (eqb r x)) (eqb→eq s u q) p
+
+----------------------------------------------------------------------------------------------------
+-- An answer of 0 or 8 comes from a readable table with room
+
+pub record Walked (s : List ℕ) (out : List ℕ) : Type 0 where
+  pub header : Header
+  pub table : Table
+  pub read : reading s ≡ readable header table
+  pub room : 4 * table .variables ≤ length out
+
+module _ (s : List ℕ) (b : ℕ) (out : List ℕ) where
+  pub walked : (answer s b out .number ≡ 0) ⊎ (answer s b out .number ≡ 8) → Walked s out
+  walked w = go (reading s) refl
+    where
+      neither : (n p : ℕ) → answer s b out ≡ refusedAs n p out → (n ≡ 0 → ⊥) → (n ≡ 8 → ⊥) → ⊥
+      neither n p e f g =
+          let m : answer s b out .number ≡ n = ap (λ (r : Answered). r .number) e in
+          elim w [ inl z ↦ f (sym m ∙ z) | inr z ↦ g (sym m ∙ z) ]
+
+      unread : (n p : ℕ) → reading s ≡ refusal n p → answer s b out ≡ refusedAs n p out
+      unread n p e = unfold answer in ap (λ (r : Reading). readingAs r b out) e
+
+      room-of : (h : Header) (t : Table) → reading s ≡ readable h t → Dec (4 * t .variables ≤ length out) → Walked s out
+      room-of h t e (yes r) = record { header = h; table = t; read = e; room = r }
+      room-of h t e (no r) = absurd (neither 7 (4 * t .variables) (answer-short s b out h t e (omega arith)) (λ z. omega arith) (λ z. omega arith))
+
+      go : (r : Reading) → reading s ≡ r → Walked s out
+      go (refusal n p) e =
+          let q = refused-number (refusal-placed s n p e) in
+          absurd (neither n p (unread n p e) (λ z. omega arith) (λ z. omega arith))
+      go (readable h t) e = room-of h t e (decLe (4 * t .variables) (length out))
+
+-- the table of a reading
+the-table : (s : List ℕ) (h : Header) (t : Table) → reading s ≡ readable h t → t ≡ tableOf s
+the-table s h t e = readable-header s h t e .1
+
+known-table : (s : List ℕ) (h : Header) (t : Table) → reading s ≡ readable h t → T (declared (tableOf s))
+known-table s h t e = subst (λ (u : Table). T (declared u)) (the-table s h t e) (known s h t e)
+
+----------------------------------------------------------------------------------------------------
+-- What an answer says of substitutions
+
+module _ (s : List ℕ) (b : ℕ) (out : List ℕ) where
+  -- NONE: NO SUBSTITUTION, OF ANY DEPTH AND OVER ANY NAMES, MAKES EVERY LINE TRUE
+  pub demand-3-none : answer s b out .number ≡ 8 → (γ : Substitution) → T (makes sameRole (tableOf s) γ) → ⊥
+  demand-3-none e γ m =
+      let w = walked s b out (inr e) in
+      let f = demand-2-none s (w .header) (w .table) (w .read) b out (w .room) .0 e in
+      let γ-makes : T (makes sameRole (w .table) γ) = subst (λ (u : Table). T (makes sameRole u γ)) (sym (the-table s (w .header) (w .table) (w .read))) m in
+      let l = locality sameRole same-refl same-trans (w .table) (known s (w .header) (w .table) (w .read)) γ γ-makes in
+      nowhere (w .table) (f .1) (l .0) (l .1) (l .3)
+    where
+      nowhere : (t : Table) → NoneSolves t → (a : Assignment) → IsAssignment t a → Solves sameRole t a → ⊥
+      nowhere t n = unfold NoneSolves in n
+
+  -- SOLVED: SOME SUBSTITUTION DOES, THE ONE THAT THE REPORTED ASSIGNMENT INDUCES
+  pub demand-3-solved : answer s b out .number ≡ 0 → (γ : Substitution) × T (makes sameRole (tableOf s) γ)
+  demand-3-solved e =
+      let w = walked s b out (inl e) in
+      let f = demand-2-solved s (w .header) (w .table) (w .read) b out (w .room) .0 e in
+      let a : Assignment = f .1 .0 in (
+        induced (w .table) a,
+        subst (λ (u : Table). T (makes sameRole u (induced (w .table) a))) (the-table s (w .header) (w .table) (w .read))
+            (solving-substitution sameRole (w .table) a (solution (w .table) a (f .1 .1))),
+      )
+    where
+      solution : (t : Table) (a : Assignment) → FirstSolving t a → Solves sameRole t a
+      solution t a g = unfold FirstSolving in g .1
+
+----------------------------------------------------------------------------------------------------
+-- Growth
+
+module _ (s u : List ℕ) (grown : Grown s u) (b c : ℕ) (out more : List ℕ) where
+  -- NO GROWTH OF A "NONE" TABLE IS EVER "SOLVED"
+  pub demand-3-grown : answer s b out .number ≡ 8 → answer u c more .number ≡ 0 → ⊥
+  demand-3-grown e f =
+      let w = walked s b out (inr e) in
+      let g = demand-3-solved u c more f in
+      demand-3-none s b out e (g .0) (growth-back sameRole (tableOf s) (tableOf u) (known-table s (w .header) (w .table) (w .read)) (grown-grows s u grown) (g .0) (g .1))
+
+  -- NO GROWTH WITHOUT NEW LINES OF A "SOLVED" TABLE IS EVER "NONE"
+  pub demand-3-widened : SameLines s u → answer s b out .number ≡ 0 → answer u c more .number ≡ 8 → ⊥
+  demand-3-widened same e f =
+      let w = walked s b out (inl e) in
+      let g = demand-3-solved s b out e in
+      demand-3-none u c more f (g .0)
+      (growth-same sameRole (tableOf s) (tableOf u) (known-table s (w .header) (w .table) (w .read)) (grown-grows s u grown) (grown-lines s u grown same) (g .0) (g .1))
+
+----------------------------------------------------------------------------------------------------
+-- A larger budget
+
+-- an outcome's assignment has a set for each variable
+abbrev pub Sized : Table → Outcome → Type 0
+Sized t (solved n a) = length a ≡ t .variables
+Sized t (nothing n) = Unit {0}
+Sized t (budget n) = Unit {0}
+
+-- the same number, count and place, and the same bytes of the variables' sets
+pub record SameAnswer (s : List ℕ) (q r : Answered) : Type 0 where
+  pub number : q .number ≡ r .number
+  pub count : q .count ≡ r .count
+  pub place : q .place ≡ r .place
+  pub bytes : q .number ≡ 0 → take (4 * tableOf s .variables) (q .output) ≡ take (4 * tableOf s .variables) (r .output)
+
+module _ (s : List ℕ) (b c : ℕ) (out more : List ℕ) where
+  same-outcome : (t : Table) → t ≡ tableOf s → (o : Outcome) → Sized t o → SameAnswer s (outcomeAs o out) (outcomeAs o more)
+  same-outcome t e (solved n a) z =
+      record { number = refl; count = refl; place = refl; bytes = λ _. subst (λ (u : Table). take (4 * u .variables) (written a out) ≡ take (4 * u .variables) (written a more)) e (start out ∙ sym (start more)) }
+    where
+      start : (x : List ℕ) → take (4 * t .variables) (written a x) ≡ setBytes a
+      start x = unfold written in take-at (setBytes a) (drop (4 * length a) x) (4 * t .variables) (setBytes-length a ∙ ap (λ (k : ℕ). 4 * k) z)
+  same-outcome t e (nothing n) z = record { number = refl; count = refl; place = refl; bytes = λ q. absurd (let y : ⊥ = omega arith in y) }
+  same-outcome t e (budget n) z = record { number = refl; count = refl; place = refl; bytes = λ q. absurd (let y : ⊥ = omega arith in y) }
+
+  -- A LARGER BUDGET WITH ENOUGH ROOM GIVES THE SAME ANSWER, BYTES AND COUNT
+  pub demand-3-budget : (answer s b out .number ≡ 0) ⊎ (answer s b out .number ≡ 8) → b ≤ c → 4 * tableOf s .variables ≤ length more
+      → SameAnswer s (answer s b out) (answer s c more)
+  demand-3-budget w l r =
+      subst (λ (x : Answered). SameAnswer s x (answer s c more)) (sym first)
+      (subst (SameAnswer s (outcomeAs (outcome sameRole t b) out)) (sym second) (same-outcome t here (outcome sameRole t b) sized))
+    where
+      k : Walked s out
+      k = walked s b out w
+
+      t : Table
+      t = k .table
+
+      here : t ≡ tableOf s
+      here = the-table s (k .header) t (k .read)
+
+      known-t : T (declared t)
+      known-t = known s (k .header) t (k .read)
+
+      first : answer s b out ≡ outcomeAs (outcome sameRole t b) out
+      first = answer-outcome s (k .header) t (k .read) b out (k .room)
+
+      within : (answer s b out .number ≡ 0) ⊎ (answer s b out .number ≡ 8) → N t ≤ b
+      within (inl e) = demand-2-solved s (k .header) t (k .read) b out (k .room) .0 e .0
+      within (inr e) = demand-2-none s (k .header) t (k .read) b out (k .room) .0 e .0
+
+      second : answer s c more ≡ outcomeAs (outcome sameRole t b) more
+      second =
+          answer-outcome s (k .header) t (k .read) c more (subst (λ (u : Table). 4 * u .variables ≤ length more) (sym here) r)
+          ∙ ap (λ (o : Outcome). outcomeAs o more) (more-budget sameRole t known-t b c (within w) l)
+
+      sized : Sized t (outcome sameRole t b)
+      sized = go (outcome sameRole t b) (outcome-says sameRole t known-t b)
+        where
+          go : (o : Outcome) → OutcomeSays sameRole t known-t b o → Sized t o
+          go (solved n a) q = unfold IsAssignment in q .2 .0 .0
+          go (nothing n) q = tt
+          go (budget n) q = tt

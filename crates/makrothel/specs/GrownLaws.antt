@@ -1,0 +1,184 @@
+-- Growth on bytes gives growth on tables: codes keep their meaning.
+--
+--   filler-code, entry-code == a code that is allowed under two headers writes the same under both
+--   grown-grows  == the table of the grown bytes grows from the other's
+--   grown-lines  == and where no line is new it has the same lines
+use mathlib.Core.Path.{_≡_, refl, sym, ap, ap₂, subst, _∙_}
+use mathlib.Core.Bool.{Bool, true, false, cond}
+use mathlib.Core.List.{List, [], _∷_, _++_}
+use mathlib.Core.Option.{Option, none, some}
+use Prim.Native.Nat.{ℕ, zero, suc, _+_, _-_, _*_, _≤_, _<_, min}
+use native.Mathlib.Omega.{arith}
+use lib.Dec.{T, ltb}
+use lib.ListN.{length, getD, take, drop, length-take, length-drop, length-append, take-append-drop, List·getD-append}
+use lib.Seq.{getD-take, getD-drop, ext-getD, length-take-le, take-all}
+use Rattle.el.specs.Table.{Filler, topF, constantF, variableF, Entry, constant, restriction, variable, Row, Line, Table, rowAt}
+use Rattle.el.specs.Growth.{Grows}
+use Rattle.table.specs.declared.Kind.{Kind}
+use Rattle.table.specs.declared.Kind.the-variants.{Top, Constant, Restriction, Variable, Other}
+use Rattle.table.specs.Code.{kindOf, within, fillerOfKind, fillerOf, entryOfKind, entryOf}
+use Rattle.table.specs.Reading.{byteAt, reading, isReadable, tableOf}
+use Rattle.table.specs.Layout.{lineAt, lineStart, Layout}
+use Rattle.table.specs.LayoutLaws.{layout}
+use Rattle.makrothel.specs.Grown.{rowBytes, lineBytes, Grown, SameLines}
+
+----------------------------------------------------------------------------------------------------
+-- Codes keep their meaning
+
+within-is : {A : Type 0} (k n : ℕ) (x y : A) → within k n x ≡ some y → x ≡ y
+unfolding within
+within-is k n x y e = go (ltb k n) e
+  where
+    go : (b : Bool) → cond b (some x) none ≡ some y → x ≡ y
+    go true q = cc
+    go false q = absurd (let z : _≡_ {A = ℕ} 0 1 = cc in let w : ⊥ = omega arith in w)
+
+none-some : {A : Type 0} (x : A) → none ≡ some x → ⊥
+none-some x e = let z : _≡_ {A = ℕ} 0 1 = cc in omega arith
+
+some-same : {A : Type 0} (x y : A) → some x ≡ some y → x ≡ y
+some-same x y e = cc
+
+filler-kind : (c v d w : ℕ) (k : Kind) (f g : Filler) → fillerOfKind c v k ≡ some f → fillerOfKind d w k ≡ some g → f ≡ g
+unfolding fillerOfKind
+filler-kind c v d w Top f g p q = some-same f g (sym p ∙ q)
+filler-kind c v d w (Constant k) f g p q = sym (within-is k c (constantF k) f p) ∙ within-is k d (constantF k) g q
+filler-kind c v d w (Restriction k) f g p q = absurd (none-some f p)
+filler-kind c v d w (Variable k) f g p q = sym (within-is k v (variableF k) f p) ∙ within-is k w (variableF k) g q
+filler-kind c v d w Other f g p q = absurd (none-some f p)
+
+pub filler-code : (c v d w b : ℕ) (f g : Filler) → fillerOf c v b ≡ some f → fillerOf d w b ≡ some g → f ≡ g
+unfolding fillerOf
+filler-code c v d w b f g p q = filler-kind c v d w (kindOf b) f g p q
+
+entry-kind : (c e v d i w : ℕ) (k : Kind) (f g : Entry) → entryOfKind c e v k ≡ some f → entryOfKind d i w k ≡ some g → f ≡ g
+unfolding entryOfKind
+entry-kind c e v d i w Top f g p q = absurd (none-some f p)
+entry-kind c e v d i w (Constant k) f g p q = sym (within-is k c (constant k) f p) ∙ within-is k d (constant k) g q
+entry-kind c e v d i w (Restriction k) f g p q = sym (within-is k e (restriction k) f p) ∙ within-is k i (restriction k) g q
+entry-kind c e v d i w (Variable k) f g p q = sym (within-is k v (variable k) f p) ∙ within-is k w (variable k) g q
+entry-kind c e v d i w Other f g p q = absurd (none-some f p)
+
+pub entry-code : (c e v d i w b : ℕ) (f g : Entry) → entryOf c e v b ≡ some f → entryOf d i w b ≡ some g → f ≡ g
+unfolding entryOf
+entry-code c e v d i w b f g p q = entry-kind c e v d i w (kindOf b) f g p q
+
+----------------------------------------------------------------------------------------------------
+-- The rows and lines of the grown table
+
+module _ (s u : List ℕ) (grown : Grown s u) where
+  here : Layout s (tableOf s)
+  here = layout s (grown .readable-before)
+
+  there : Layout u (tableOf u)
+  there = layout u (grown .readable-after)
+
+  row-byte : (i : ℕ) → i < 2 * byteAt s 8 → 10 + i < length s → byteAt u (10 + i) ≡ byteAt s (10 + i)
+  row-byte i h l =
+      let wide : byteAt s 8 ≤ byteAt u 8 = grown .restrictions in
+      let room : i < length (rowBytes s) = unfold rowBytes in simp (length-take, length-drop) (omega arith) in
+      sym (in-rows u (omega arith)) ∙ ap (λ (x : List ℕ). getD x i 0) (grown .rows-first .1)
+      ∙ List·getD-append (rowBytes s) (grown .rows-first .0) 0 i room ∙ in-rows s h
+    where
+      in-rows : (x : List ℕ) → i < 2 * byteAt x 8 → getD (rowBytes x) i 0 ≡ byteAt x (10 + i)
+      in-rows x k = unfold rowBytes in (getD-take (2 * byteAt x 8) (drop 10 x) i 0 k ∙ getD-drop 10 x i 0)
+
+  row-same : (k : ℕ) → k < byteAt s 8 → rowAt (tableOf u .rows) k ≡ rowAt (tableOf s .rows) k
+  row-same k h =
+      let wide : byteAt s 8 ≤ byteAt u 8 = grown .restrictions in
+      let long : 11 + 2 * k < length s = here .row-in k h in
+      let first : byteAt u (10 + 2 * k) ≡ byteAt s (10 + 2 * k) = row-byte (2 * k) (omega arith) (omega arith) in
+      let second : byteAt u (11 + 2 * k) ≡ byteAt s (11 + 2 * k) = shift k (row-byte (1 + 2 * k) (omega arith) (omega arith)) in
+      ap₂ (λ (r : ℕ) (f : Filler). record { role = r; filler = f })
+      (there .row-role k (omega arith) ∙ first ∙ sym (here .row-role k h))
+      (filler-code (byteAt u 5) (byteAt u 7) (byteAt s 5) (byteAt s 7) (byteAt s (11 + 2 * k)) (rowAt (tableOf u .rows) k .filler) (rowAt (tableOf s .rows) k .filler)
+      (subst (λ (b : ℕ). fillerOf (byteAt u 5) (byteAt u 7) b ≡ some (rowAt (tableOf u .rows) k .filler)) second (there .row-filler k (omega arith)))
+      (here .row-filler k h))
+    where
+      shift : (k : ℕ) → byteAt u (10 + (1 + 2 * k)) ≡ byteAt s (10 + (1 + 2 * k)) → byteAt u (11 + 2 * k) ≡ byteAt s (11 + 2 * k)
+      shift k e = let q : 10 + (1 + 2 * k) ≡ 11 + 2 * k = omega arith in subst (λ (i : ℕ). byteAt u i ≡ byteAt s i) q e
+
+  -- a list that agrees with another as far as that goes begins with it
+  begins : {A : Type 0} (d : A) (l m : List A) → length l ≤ length m → ((i : ℕ) → i < length l → getD m i d ≡ getD l i d) → m ≡ l ++ drop (length l) m
+  begins d l m h f =
+      sym (take-append-drop (length l) m)
+      ∙ ap (λ (x : _). x ++ drop (length l) m) (ext-getD d (take (length l) m) l (length-take-le (length l) m h)
+      (λ i k. let n : length (take (length l) m) ≡ length l = length-take-le (length l) m h in getD-take (length l) m i d (omega arith) ∙ f i (omega arith)))
+
+  rows-begin : tableOf u .rows ≡ tableOf s .rows ++ drop (length (tableOf s .rows)) (tableOf u .rows)
+  rows-begin =
+      let a = here .rows in let b = there .rows in let wide : byteAt s 8 ≤ byteAt u 8 = grown .restrictions in
+      begins (record { role = 0; filler = topF }) (tableOf s .rows) (tableOf u .rows) (omega arith) (λ i h. unfold rowAt in row-same i (omega arith))
+
+  -- lines: where they begin, and their bytes
+  start-late : (n : ℕ) → 10 + 2 * byteAt s 8 ≤ lineStart s n
+  unfolding lineStart
+  start-late zero = omega arith
+  start-late (suc n) = let h : 10 + 2 * byteAt s 8 ≤ lineStart s n = start-late n in omega arith
+
+  line-byte : (j k : ℕ) → 10 + 2 * byteAt s 8 ≤ j → j < length s → k + 2 * byteAt s 8 ≡ j + 2 * byteAt u 8 → byteAt u k ≡ byteAt s j
+  line-byte j k l h e = at (j - (10 + 2 * byteAt s 8)) (omega arith) (omega arith)
+    where
+      at : (i : ℕ) → k ≡ 10 + 2 * byteAt u 8 + i → j ≡ 10 + 2 * byteAt s 8 + i → byteAt u k ≡ byteAt s j
+      at i p q =
+          let room : i < length (lineBytes s) = unfold lineBytes in simp length-drop (omega arith) in
+          ap (byteAt u) p ∙ sym (in-lines u) ∙ ap (λ (x : List ℕ). getD x i 0) (grown .lines-first .1)
+          ∙ List·getD-append (lineBytes s) (grown .lines-first .0) 0 i room ∙ in-lines s ∙ sym (ap (byteAt s) q)
+        where
+          in-lines : (x : List ℕ) → getD (lineBytes x) i 0 ≡ byteAt x (10 + 2 * byteAt x 8 + i)
+          in-lines x = unfold lineBytes in getD-drop (10 + 2 * byteAt x 8) x i 0
+
+  start-same : (n : ℕ) → n ≤ byteAt s 9 → lineStart u n + 2 * byteAt s 8 ≡ lineStart s n + 2 * byteAt u 8
+  unfolding lineStart
+  start-same zero h = omega arith
+  start-same (suc n) h =
+      let e : lineStart u n + 2 * byteAt s 8 ≡ lineStart s n + 2 * byteAt u 8 = start-same n (omega arith) in
+      let i : lineStart s n + byteAt s (lineStart s n) + 2 ≤ length s = here .line-in n (omega arith) in
+      let p : byteAt u (lineStart u n) ≡ byteAt s (lineStart s n) = line-byte (lineStart s n) (lineStart u n) (start-late n) (omega arith) e in
+      omega arith
+
+  line-same : (n : ℕ) → n < byteAt s 9 → lineAt (tableOf u .lines) n ≡ lineAt (tableOf s .lines) n
+  line-same n h =
+      let more : byteAt s 9 ≤ byteAt u 9 = grown .lines in
+      let e : lineStart u n + 2 * byteAt s 8 ≡ lineStart s n + 2 * byteAt u 8 = start-same n (omega arith) in
+      let i : lineStart s n + byteAt s (lineStart s n) + 2 ≤ length s = here .line-in n h in
+      let low : 10 + 2 * byteAt s 8 ≤ lineStart s n = start-late n in
+      let p : byteAt u (lineStart u n) ≡ byteAt s (lineStart s n) = line-byte (lineStart s n) (lineStart u n) low (omega arith) e in
+      let a : length (lineAt (tableOf s .lines) n .left) ≡ byteAt s (lineStart s n) = here .line-left n h in
+      let b : length (lineAt (tableOf u .lines) n .left) ≡ byteAt u (lineStart u n) = there .line-left n (omega arith) in
+      ap₂ (λ (l : List Entry) (r : Entry). record { left = l; right = r })
+      (ext-getD (constant 0) (lineAt (tableOf u .lines) n .left) (lineAt (tableOf s .lines) n .left) (omega arith)
+      (λ k l. entry-code (byteAt u 5) (byteAt u 8) (byteAt u 7) (byteAt s 5) (byteAt s 8) (byteAt s 7) (byteAt s (lineStart s n + 1 + k))
+      (getD (lineAt (tableOf u .lines) n .left) k (constant 0)) (getD (lineAt (tableOf s .lines) n .left) k (constant 0))
+      (subst (λ (x : ℕ). entryOf (byteAt u 5) (byteAt u 8) (byteAt u 7) x ≡ some (getD (lineAt (tableOf u .lines) n .left) k (constant 0)))
+      (line-byte (lineStart s n + 1 + k) (lineStart u n + 1 + k) (omega arith) (omega arith) (omega arith)) (there .line-entry n k (omega arith) (omega arith)))
+      (here .line-entry n k h (omega arith))))
+      (entry-code (byteAt u 5) (byteAt u 8) (byteAt u 7) (byteAt s 5) (byteAt s 8) (byteAt s 7) (byteAt s (lineStart s n + 1 + byteAt s (lineStart s n)))
+      (lineAt (tableOf u .lines) n .right) (lineAt (tableOf s .lines) n .right)
+      (subst (λ (x : ℕ). entryOf (byteAt u 5) (byteAt u 8) (byteAt u 7) x ≡ some (lineAt (tableOf u .lines) n .right))
+      (line-byte (lineStart s n + 1 + byteAt s (lineStart s n)) (lineStart u n + 1 + byteAt u (lineStart u n)) (omega arith) (omega arith) (omega arith)) (there .line-right n (omega arith)))
+      (here .line-right n h))
+
+  lines-begin : tableOf u .lines ≡ tableOf s .lines ++ drop (length (tableOf s .lines)) (tableOf u .lines)
+  lines-begin =
+      let a = here .lines in let b = there .lines in let more : byteAt s 9 ≤ byteAt u 9 = grown .lines in
+      begins (record { left = []; right = constant 0 }) (tableOf s .lines) (tableOf u .lines) (omega arith) (λ i h. unfold lineAt in line-same i (omega arith))
+
+  -- GROWTH ON BYTES IS GROWTH ON TABLES
+  pub grown-grows : Grows (tableOf s) (tableOf u)
+  grown-grows =
+      let a = here .constants in let b = there .constants in let c = here .roles in let d = there .roles in let e = here .variables in let f = there .variables in
+      let g : byteAt s 5 ≤ byteAt u 5 = grown .constants in let h : byteAt s 6 ≤ byteAt u 6 = grown .roles in let i : byteAt s 7 ≤ byteAt u 7 = grown .variables in
+      record {
+        constants = omega arith;
+        roles = omega arith;
+        variables = omega arith;
+        rows = (drop (length (tableOf s .rows)) (tableOf u .rows), rows-begin);
+        lines = (drop (length (tableOf s .lines)) (tableOf u .lines), lines-begin);
+      }
+
+  pub grown-lines : SameLines s u → tableOf u .lines ≡ tableOf s .lines
+  unfolding SameLines lineAt
+  grown-lines e =
+      let a = here .lines in let b = there .lines in let q : byteAt s 9 ≡ byteAt u 9 = e in
+      ext-getD (record { left = []; right = constant 0 }) (tableOf u .lines) (tableOf s .lines) (omega arith) (λ i h. line-same i (omega arith))

@@ -1,0 +1,105 @@
+-- `walk::next_node` meets its contract. The invariant: what comes after the first node comes after the one at hand. The measure is how many are chosen.
+use borrow.Author.Needs.{needs}
+use mathlib.Core.Path.{_≡_, ap, _∙_}
+use Prim.Native.Nat.{ℕ, _+_, _-_, _^_, _≤_}
+use native.Mathlib.Omega.{arith}
+use lib.ListN.{length}
+use Rattle.el.specs.Table.{Table, atoms}
+use Rattle.walk.specs.Step.{Next, rest, after}
+use Rattle.walk.proofs.Laws.{Goes, goes-start, goes-up, next-sibling, next-none}
+use Rattle.walk.proofs.next_node.Statement.{statement}
+use Rattle.walk.proofs.next_node.Tie as tie
+use Rattle.walk.proofs.next_node.Reads as reads
+use Rattle.walk.proofs.next_node.Lts as lts
+
+abbrev Inv-loop : tie.InvT-loop
+Inv-loop last set₀ k₀ set k =
+    (length set ≡ 12) × (k ≤ k₀) × (k₀ ≤ 12) × ((t : Table) → 2 ^ atoms t ≡ last + 1 → Goes t set₀ k₀ set k)
+
+abbrev μ-loop : tie.MeasureT-loop
+μ-loop last set₀ k₀ set k = k
+
+-- src/lib.rt:40:5
+loop-holds : tie.Need-loop-holds Inv-loop μ-loop
+loop-holds c = (search needs, omega arith, omega arith, λ t e. goes-start t _ _)
+
+-- src/lib.rt:41:21
+sub-x : tie.Need-sub-x Inv-loop μ-loop
+sub-x c = search needs
+
+-- src/lib.rt:41:17
+mul-x : tie.Need-mul-x Inv-loop μ-loop
+mul-x c = search needs
+
+-- src/lib.rt:41:17
+array-read-x : tie.Need-array-read-x Inv-loop μ-loop
+array-read-x c = search needs
+
+-- src/lib.rt:43:26
+add-set : tie.Need-add-set Inv-loop μ-loop
+add-set c = search needs
+
+-- src/lib.rt:43:17
+sub-set : tie.Need-sub-set Inv-loop μ-loop
+sub-set c = search needs
+
+-- src/lib.rt:43:13
+mul-set : tie.Need-mul-set Inv-loop μ-loop
+mul-set c = search needs
+
+-- src/lib.rt:43:13
+array-write-set : tie.Need-array-write-set Inv-loop μ-loop
+array-write-set c = search needs
+
+-- src/lib.rt:44:13
+returns : tie.Need-returns Inv-loop μ-loop
+unfolding Next rest after
+returns c = λ t e. next-sibling t _ e _ _ (c .before .loop-test .taken) (omega arith) _ _ (c .if1 .taken) (c .before .before .loop .inv .3 t e)
+
+-- src/lib.rt:46:9
+sub-k : tie.Need-sub-k Inv-loop μ-loop
+sub-k c = search needs
+
+-- src/lib.rt:47:9
+mul-set-2 : tie.Need-mul-set-2 Inv-loop μ-loop
+mul-set-2 c = search needs
+
+-- src/lib.rt:47:9
+array-write-set-2 : tie.Need-array-write-set-2 Inv-loop μ-loop
+array-write-set-2 c = search needs
+
+-- src/lib.rt:40:5
+loop-less : tie.Need-loop-less Inv-loop μ-loop
+loop-less c = search needs
+
+-- src/lib.rt:40:5
+loop-again : tie.Need-loop-again Inv-loop μ-loop
+loop-again c =
+    (search needs, omega arith, omega arith, λ t e. goes-up t _ e _ _ (c .before .loop-test .taken) (omega arith) _ _ (c .if1 .left) (c .before .before .loop .inv .3 t e))
+
+-- src/lib.rt:34:1
+returns-2 : tie.Need-returns-2 Inv-loop μ-loop
+unfolding Next rest after
+returns-2 c = λ t e. next-none t _ _ _ _ (omega arith) (c .before .loop .inv .3 t e)
+
+pub next-node-spec : {M : Type 1} → statement M
+next-node-spec =
+    tie.close
+    (tie.spec
+    Inv-loop
+    μ-loop
+    loop-holds
+    sub-x
+    mul-x
+    array-read-x
+    add-set
+    sub-set
+    mul-set
+    array-write-set
+    returns
+    sub-k
+    mul-set-2
+    array-write-set-2
+    loop-less
+    loop-again
+    returns-2)

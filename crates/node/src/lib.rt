@@ -74,7 +74,7 @@ fn fill_masks(table: &[u8], e: usize) -> [u32; 24]
 }
 
 // The mask of the variables on which a variable with the set number `set` depends directly.
-fn depends_row(fill: &[u32], c: usize, e: usize, set: u32) -> u32
+pub fn depends_row(fill: &[u32], c: usize, e: usize, set: u32) -> u32
     requires { ⌜ (c + e ≤ 24) × (e ≤ length (now fill)) ⌝ }
     ensures { λ r. ⌜ Masks (dependsBy (now (fill .entry)) c set e) r ⌝ }
 {
@@ -137,7 +137,7 @@ fn close(square: Square, n: usize) -> Square
 }
 
 // The square of variables at a node: row x has a bit for each variable that x reaches.
-fn square_of(fill: &[u32], c: usize, e: usize, sets: Sets) -> Square
+pub fn square_of(fill: &[u32], c: usize, e: usize, sets: Sets) -> Square
     requires { ⌜ (c + e ≤ 24) × (e ≤ length (now fill)) × (sets .chosen ≤ 12) × Clean sets ⌝ }
     ensures { λ r. ⌜ Squares (now (fill .entry)) c e sets (r .row) ⌝ }
 {
@@ -222,7 +222,7 @@ pub fn prepare(table: &[u8], e: usize, m: usize) -> Prepared
 }
 
 // The mask of the settled variables: the chosen ones, n in number, that lead to none that is not chosen.
-fn settled_mask(square: Square, n: usize) -> u32
+pub fn settled_mask(square: Square, n: usize) -> u32
     requires { ⌜ n ≤ 12 ⌝ }
     ensures { λ r. ⌜ Masks (settledBy (square .row) n n) r ⌝ }
 {
@@ -239,7 +239,7 @@ fn settled_mask(square: Square, n: usize) -> u32
 }
 
 // The mask of the variables below n that lead to z.
-fn leads_mask(square: Square, n: usize, z: usize) -> u32
+pub fn leads_mask(square: Square, n: usize, z: usize) -> u32
     requires { ⌜ (n ≤ 12) × (z < 12) ⌝ }
     ensures { λ r. ⌜ Masks (leadsBy (square .row) z n) r ⌝ }
 {

@@ -2,10 +2,12 @@
 --
 --   newBy rows d n w        == a variable with the direct dependences d leads to w, over the rows of the first n variables
 --   passing q n             == the numbers below n that pass q, in rising order
+--   freshMask own a k       == the mask `own` has a bit of the mask a, and only bits of the mask k
 --   isFresh mask a k n      == line n has a variable of the mask a, and only variables of the mask k
 --   Listed q m fresh few    == the first `few` numbers of `fresh` are those below m that pass q
 --   Levels t p m level      == the level is that of the children of the node p
---   freshFails s sets fresh few == one of the lines listed does not hold at the node of the sets
+--   failsAt s set n         == line n does not hold under the sets
+--   freshFails s set fresh few == one of the lines listed does not
 --   FreshGiven s start c e v level sets == what its test asks
 use mathlib.Core.Path.{_≡_}
 use mathlib.Core.Bool.{Bool, true, false, _&&_, _||_, not}
@@ -34,8 +36,11 @@ unfoldable pub passing : (ℕ → Bool) → ℕ → List ℕ
 passing q zero = []
 passing q (suc n) = elim (q n) [ true ↦ passing q n ++ (n ∷ []) | false ↦ passing q n ]
 
+unfoldable pub freshMask : ℕ → ℕ → ℕ → Bool
+freshMask own a k = not (eqb (bitAnd own a) 0) && eqb (bitAnd own k) own
+
 unfoldable pub isFresh : List ℕ → ℕ → ℕ → ℕ → Bool
-isFresh mask a k n = not (eqb (bitAnd (getD mask n 0) a) 0) && eqb (bitAnd (getD mask n 0) k) (getD mask n 0)
+isFresh mask a k n = freshMask (getD mask n 0) a k
 
 pub record Listed (q : ℕ → Bool) (m : ℕ) (fresh : List ℕ) (few : ℕ) : Type 0 where
   pub numbers : take few fresh ≡ passing q m
@@ -45,9 +50,11 @@ pub record Levels (t : Table) (p : Node) (m : ℕ) (level : Level) : Type 0 wher
   pub rows : Shows t p (level .row)
   pub lines : Listed (λ n. freshly t p (lineAt (t .lines) n)) m (level .fresh) (level .few)
 
-unfoldable pub freshFails : List ℕ → Sets → List ℕ → ℕ → Bool
-freshFails s sets fresh few =
-    anyBelow few (λ i. not (holds sameRole (tableOf s .rows) (induced (tableOf s) (sets .set)) (lineAt (tableOf s .lines) (getD fresh i 0))))
+unfoldable pub failsAt : List ℕ → List ℕ → ℕ → Bool
+failsAt s set n = not (holds sameRole (tableOf s .rows) (induced (tableOf s) set) (lineAt (tableOf s .lines) n))
+
+unfoldable pub freshFails : List ℕ → List ℕ → List ℕ → ℕ → Bool
+freshFails s set fresh few = anyBelow few (λ i. failsAt s set (getD fresh i 0))
 
 pub record FreshGiven (s start : List ℕ) (c e v : ℕ) (level : Level) (sets : Sets) : Type 0 where
   pub readable : T (isReadable (reading s))
@@ -57,4 +64,5 @@ pub record FreshGiven (s start : List ℕ) (c e v : ℕ) (level : Level) (sets :
   pub starts : LineStarts s (byteAt s 9) start
   pub room : length start ≡ 64
   pub straight : T (acyclic (tableOf s) (sets .set))
+  pub few-fit : level .few ≤ length (level .fresh)
   pub in-table : (i : ℕ) → i < level .few → getD (level .fresh) i 0 < byteAt s 9

@@ -3,8 +3,10 @@
 --   new-start, new-more, new-skip, new-whole == the loop that follows the newest variable's dependences
 --   listed-start, listed-more, listed-skip, listed-whole == the loop that lists lines
 --   passing-same, passing-below, passing-any == the numbers that pass a test
+--   fresh-none, fresh-some == whether a line is listed, by its mask
 --   about-says, near-says, fresh-says == what the two masks of a level say, and so which lines it lists
---   Parent s c e v m sets  == the node above the node of the sets, and what a level of its children is made from
+--   lines-start, lines-fail, lines-next, lines-whole, fresh-in, fresh-line == the loop over the lines listed
+--   node-child, parent-shows == the node above the node of the sets
 --   level-whole            == the level that is made so
 --   below-given, dead-cycle, dead-open, dead-fresh == the test of a child by its level
 use mathlib.Core.Path.{_≡_, refl, sym, ap, ap₂, subst, _∙_}
@@ -21,7 +23,7 @@ use lib.ListN.{length, getD, take, set, length-set, length-append, List·getD-ap
 use lib.Seq.{take-suc-set, take-suc, take-set-le, getD-set-same, getD-set-other, getD-take, length-take-le, getD-append-seam}
 use borrow.Author.Tests.{eq-eqb, ne-eqb, lt-ltb, le-ltb, eqb-true}
 use Rattle.el.specs.Test.{anyBelow, allBelow, anyOf, everyOf, bit}
-use Rattle.el.specs.TestLaws.{is-true, is-false, true-is, false-not, same-test, or-left, or-right, or-cases, and-make, and-left, and-right, anyBelow-hit, anyBelow-found, anyBelow-next, anyBelow-same, anyBelow-none, allBelow-all, allBelow-at, anyOf-append, anyOf-hit, anyOf-found, bit-none}
+use Rattle.el.specs.TestLaws.{is-true, is-false, true-is, false-not, same-test, or-left, or-right, or-cases, and-make, and-left, and-right, anyBelow-hit, anyBelow-found, anyBelow-next, anyBelow-same, anyBelow-step, anyBelow-true-at, anyBelow-none, allBelow-all, allBelow-at, anyOf-append, anyOf-hit, anyOf-found, bit-none}
 use Rattle.el.specs.Description.{sameRole}
 use Rattle.el.specs.Table.{constant, Line, Table, declared}
 use Rattle.el.specs.Meaning.{holds}
@@ -33,6 +35,8 @@ use Rattle.el.specs.FreshLaws.{childOf, parent-acyclic}
 use Rattle.el.specs.ChildLaws.{newly, freshly, child-acyclic, child-open, child-dead}
 use Rattle.table.specs.Reading.{byteAt, reading, isReadable, tableOf}
 use Rattle.table.specs.Layout.{Layout, lineAt}
+use Rattle.table.specs.LayoutLaws.{layout}
+use Rattle.order.specs.Given.{LineGiven}
 use Rattle.node.specs.declared.Sets.{Sets}
 use Rattle.node.specs.Node.{nodeOf, Clean, Masks, isAmong, dependsBy, FillMasks, LineMasks, LineStarts, Fills, Prepares, rowOf, Shows, Squares, settledBy, leadsBy, LiveAbove, NodeGiven}
 use Rattle.node.specs.MaskLaws.{has-bit, bit-more, or-none, bit-or, bit-and, no-bits, high-none, none-high, masks-or, masks-same}
@@ -42,7 +46,7 @@ use Rattle.node.specs.SquareLaws.{depends-filled, set-node, length-node, reache
 use Rattle.node.specs.DeadLaws.{same-holds, any-below}
 use Rattle.node.specs.NodeTestLaws.{node-layout, node-few}
 use Rattle.level.specs.declared.Level.{Level}
-use Rattle.level.specs.Level.{newBy, passing, isFresh, Listed, Levels, freshFails, FreshGiven}
+use Rattle.level.specs.Level.{newBy, passing, freshMask, isFresh, Listed, Levels, failsAt, freshFails, FreshGiven}
 
 ----------------------------------------------------------------------------------------------------
 -- The newest variable's dependences, followed
@@ -167,17 +171,13 @@ passing-same q r (suc n) f = go (passing-cases q n) (passing-cases r n) (passing
     go (inl u) (inr w) ih = absurd (false-not (r n) (w .0) (true-is (r n) (sym same ∙ u .0)))
     go (inr u) (inl w) ih = absurd (false-not (q n) (u .0) (true-is (q n) (same ∙ w .0)))
 
-pub fresh-yes : (mask : List ℕ) (a k n : ℕ) → (bitAnd (getD mask n 0) a ≡ 0 → ⊥) → bitAnd (getD mask n 0) k ≡ getD mask n 0 → isFresh mask a k n ≡ true
-unfolding isFresh
-fresh-yes mask a k n h e = ap₂ (λ (x y : Bool). not x && y) (ne-eqb (bitAnd (getD mask n 0) a) 0 h) (eq-eqb (bitAnd (getD mask n 0) k) (getD mask n 0) e)
+pub fresh-none : (own a k : ℕ) → bitAnd own a ≡ 0 → false ≡ freshMask own a k
+unfolding freshMask
+fresh-none own a k h = sym (ap (λ (x : Bool). not x && eqb (bitAnd own k) own) (eq-eqb (bitAnd own a) 0 h))
 
-pub fresh-none : (mask : List ℕ) (a k n : ℕ) → bitAnd (getD mask n 0) a ≡ 0 → isFresh mask a k n ≡ false
-unfolding isFresh
-fresh-none mask a k n h = ap (λ (x : Bool). not x && eqb (bitAnd (getD mask n 0) k) (getD mask n 0)) (eq-eqb (bitAnd (getD mask n 0) a) 0 h)
-
-pub fresh-no : (mask : List ℕ) (a k n : ℕ) → (bitAnd (getD mask n 0) a ≡ 0 → ⊥) → (bitAnd (getD mask n 0) k ≡ getD mask n 0 → ⊥) → isFresh mask a k n ≡ false
-unfolding isFresh
-fresh-no mask a k n h e = ap₂ (λ (x y : Bool). not x && y) (ne-eqb (bitAnd (getD mask n 0) a) 0 h) (ne-eqb (bitAnd (getD mask n 0) k) (getD mask n 0) e)
+pub fresh-some : (own a k : ℕ) → (bitAnd own a ≡ 0 → ⊥) → eqb (bitAnd own k) own ≡ freshMask own a k
+unfolding freshMask
+fresh-some own a k h = sym (ap (λ (x : Bool). not x && eqb (bitAnd own k) own) (ne-eqb (bitAnd own a) 0 h))
 
 -- a number with something left above bit k has a bit there
 pub some-high : (n k : ℕ) → (n / 2 ^ k ≡ 0 → ⊥) → (w : ℕ) × (k ≤ w) × (bit w n ≡ true)
@@ -282,11 +282,49 @@ module _ (t : Table) (known : T (declared t)) (p : Node) (rows : List ℕ) (few 
       → Masks (λ z. eqb z (length p) || reaches t p z (length p)) a
       → Masks (λ z. eqb z (length p) || (ltb z (length p) && allBelow (t .variables) (λ w. not (reaches t p z w) || leb w (length p)))) k
       → isFresh mask a k n ≡ freshly t p (lineAt (t .lines) n)
-  unfolding isFresh freshly LineMasks
+  unfolding isFresh freshMask freshly LineMasks
   fresh-says m n a k mask masks h is of =
       ap₂ _&&_
       (any-by (λ z. eqb z (length p) || reaches t p z (length p)) (lineVariables (t .rows) (lineAt (t .lines) n)) (getD mask n 0) a (masks n h) is)
       (ready-by (λ z. eqb z (length p) || (ltb z (length p) && allBelow (t .variables) (λ w. not (reaches t p z w) || leb w (length p)))) (lineVariables (t .rows) (lineAt (t .lines) n)) (getD mask n 0) k (masks n h) of)
+
+----------------------------------------------------------------------------------------------------
+-- The lines listed, one by one
+
+pub lines-start : (s set fresh : List ℕ) → freshFails s set fresh 0 ≡ false
+unfolding freshFails anyBelow
+lines-start s set fresh = refl
+
+module _ (s set fresh : List ℕ) (i n : ℕ) (this : n ≡ getD fresh i 0) (b : Bool)
+    (answers : b ≡ holds sameRole (tableOf s .rows) (induced (tableOf s) set) (lineAt (tableOf s .lines) n)) where
+  answer-at : not b ≡ failsAt s set (getD fresh i 0)
+  unfolding failsAt
+  answer-at = ap not answers ∙ ap (λ (k : ℕ). not (holds sameRole (tableOf s .rows) (induced (tableOf s) set) (lineAt (tableOf s .lines) k))) this
+
+  pub lines-fail : (few : ℕ) → i < few → not b ≡ true → true ≡ freshFails s set fresh few
+  unfolding freshFails
+  lines-fail few h e = sym (anyBelow-true-at few i (λ j. failsAt s set (getD fresh j 0)) h (sym answer-at ∙ e))
+
+  pub lines-next : not b ≡ false → freshFails s set fresh i ≡ false → freshFails s set fresh (i + 1) ≡ false
+  unfolding freshFails
+  lines-next e f = anyBelow-step i (λ j. failsAt s set (getD fresh j 0)) f (sym answer-at ∙ e)
+
+pub lines-whole : (s set fresh : List ℕ) (few i : ℕ) → i ≤ few → few ≤ i → freshFails s set fresh i ≡ false → false ≡ freshFails s set fresh few
+lines-whole s set fresh few i h k e = let q : few ≡ i = omega arith in sym (ap (freshFails s set fresh) q ∙ e)
+
+module _ (s start : List ℕ) (c e v : ℕ) (level : Level) (sets : Sets) (given : FreshGiven s start c e v level sets) where
+  pub fresh-in : (i n : ℕ) → i < level .few → n ≡ getD (level .fresh) i 0 → n < length start
+  fresh-in i n h q =
+      let k : getD (level .fresh) i 0 < byteAt s 9 = given .in-table i h in let f : byteAt s 9 ≤ 64 = layout s (given .readable) .few-lines in
+      let r : length start ≡ 64 = given .room in omega arith
+
+  pub fresh-line : (i n : ℕ) → i < level .few → n ≡ getD (level .fresh) i 0 → length (sets .set) ≡ 12 → LineGiven s (sets .set) c e v n (getD start n 0)
+  fresh-line i n h q room =
+      let k : n < byteAt s 9 = (let z : getD (level .fresh) i 0 < byteAt s 9 = given .in-table i h in omega arith) in
+      record {
+        readable = given .readable; constants = given .constants; restrictions = given .restrictions; variables = given .variables; sets = room;
+        acyclic = given .straight; line = k; begins = (unfold LineStarts in given .starts n k)
+      }
 
 ----------------------------------------------------------------------------------------------------
 -- The level of a node of the code
@@ -465,7 +503,7 @@ module _ (s : List ℕ) (c e v m : ℕ) (sets : Sets) (given : NodeGiven s c e v
                 readable = given .readable; constants = given .constants; restrictions = given .restrictions; variables = given .variables;
                 starts = ready .starts; room = ready .start-room;
                 straight = subst T (ap (acyclic (tableOf s)) (sym node-child) ∙ acyclic-same (tableOf s) (nodeOf sets) (sets .set) same-sets) (true-is (acyclic (tableOf s) (childOf parent own)) straight);
-                in-table = λ i h. inside i h
+                few-fit = is .lines .few-fit; in-table = λ i h. inside i h
               }
             where
               inside : (i : ℕ) → i < level .few → getD (level .fresh) i 0 < byteAt s 9
@@ -478,16 +516,16 @@ module _ (s : List ℕ) (c e v m : ℕ) (sets : Sets) (given : NodeGiven s c e v
                   let z : m ≡ byteAt s 9 = given .lines in omega arith
 
           -- one of the level's lines fails exactly if the node is dead
-          pub dead-fresh : freshFails s sets (level .fresh) (level .few) ≡ dead sameRole (tableOf s) (nodeOf sets)
+          pub dead-fresh : freshFails s (sets .set) (level .fresh) (level .few) ≡ dead sameRole (tableOf s) (nodeOf sets)
           dead-fresh =
               listed-any ∙ ap (anyOf fail) (is .lines .numbers) ∙ passing-any (λ n. freshly (tableOf s) parent (lineAt (tableOf s .lines) n)) fail m
               ∙ lines-any
               ∙ sym (ap (dead sameRole (tableOf s)) node-child ∙ child-dead (tableOf s) known-table parent own sameRole parent-live no-new straight closed)
             where
               fail : ℕ → Bool
-              fail n = not (holds sameRole (tableOf s .rows) (induced (tableOf s) (sets .set)) (lineAt (tableOf s .lines) n))
+              fail n = failsAt s (sets .set) n
 
-              listed-any : freshFails s sets (level .fresh) (level .few) ≡ anyOf fail (take (level .few) (level .fresh))
+              listed-any : freshFails s (sets .set) (level .fresh) (level .few) ≡ anyOf fail (take (level .few) (level .fresh))
               listed-any = unfold freshFails in any-take fail (level .fresh) (level .few) (is .lines .few-fit)
 
               at-child : (l : Line) → not (holds sameRole (tableOf s .rows) (induced (tableOf s) (sets .set)) l) ≡ not (holds sameRole (tableOf s .rows) (induced (tableOf s) (childOf parent own)) l)
@@ -495,11 +533,14 @@ module _ (s : List ℕ) (c e v m : ℕ) (sets : Sets) (given : NodeGiven s c e v
                   ap not (sym (same-holds (tableOf s) (nodeOf sets) (sets .set) same-sets l)
                   ∙ ap (λ (n : Node). holds sameRole (tableOf s .rows) (induced (tableOf s) n) l) node-child)
 
+              here : (n : ℕ) → failsAt s (sets .set) n ≡ not (holds sameRole (tableOf s .rows) (induced (tableOf s) (childOf parent own)) (lineAt (tableOf s .lines) n))
+              here n = unfold failsAt in at-child (lineAt (tableOf s .lines) n)
+
               lines-any : anyBelow m (λ n. freshly (tableOf s) parent (lineAt (tableOf s .lines) n) && fail n)
                   ≡ anyOf (λ l. freshly (tableOf s) parent l && not (holds sameRole (tableOf s .rows) (induced (tableOf s) (childOf parent own)) l)) (tableOf s .lines)
               lines-any =
                   anyBelow-same m (λ n. freshly (tableOf s) parent (lineAt (tableOf s .lines) n) && fail n) (λ n. G (lineAt (tableOf s .lines) n))
-                  (λ n h. ap (λ (b : Bool). freshly (tableOf s) parent (lineAt (tableOf s .lines) n) && b) (at-child (lineAt (tableOf s .lines) n)))
+                  (λ n h. ap (λ (b : Bool). freshly (tableOf s) parent (lineAt (tableOf s .lines) n) && b) (here n))
                   ∙ ap (λ (k : ℕ). anyBelow k (λ n. G (lineAt (tableOf s .lines) n))) (given .lines ∙ sym (node-layout s c e v m sets given .lines))
                   ∙ sym (any-below G (tableOf s .lines))
                 where

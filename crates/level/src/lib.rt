@@ -7,7 +7,7 @@ ghost use Rattle.el.specs.Description.{sameRole};
 ghost use Rattle.el.specs.Walk.{dead};
 ghost use Rattle.table.specs.Reading.{tableOf};
 ghost use Rattle.node.specs.Node.{nodeOf, NodeGiven, Prepares, LiveAbove, Masks};
-ghost use Rattle.level.specs.Level.{newBy, isFresh, Listed, Levels, FreshGiven, freshFails};
+ghost use Rattle.level.specs.Level.{newBy, freshMask, isFresh, Listed, Levels, FreshGiven, freshFails};
 
 use node::Sets;
 use node::Square;
@@ -35,6 +35,16 @@ fn newly_mask(row: [u32; 12], n: usize, direct: u32) -> u32
     mask
 }
 
+// Has the line with the variables `own` one of `about`, and none that is not of `near`?
+fn passes(own: u32, about: u32, near: u32) -> bool
+    ensures { λ r. ⌜ r ≡ freshMask own about near ⌝ }
+{
+    if (own & about) == 0 {
+        return false;
+    }
+    (own & near) == own
+}
+
 // The lines, m in number, that have a variable of `about` and only variables of `near`.
 fn collect(mask: &[u32], m: usize, about: u32, near: u32, row: [u32; 12]) -> Level
     requires { ⌜ (m ≤ 64) × (length (now mask) ≡ 64) ⌝ }
@@ -44,12 +54,9 @@ fn collect(mask: &[u32], m: usize, about: u32, near: u32, row: [u32; 12]) -> Lev
     let mut few: usize = 0;
     let mut n: usize = 0;
     while n < m {
-        let own = mask[n];
-        if (own & about) != 0 {
-            if (own & near) == own {
-                fresh[few] = n as u8;
-                few += 1;
-            }
+        if passes(mask[n], about, near) {
+            fresh[few] = n as u8;
+            few += 1;
         }
         n += 1;
     }
@@ -74,7 +81,7 @@ pub fn level_of(table: &[u8], fill: &[u32], mask: &[u32], start: &[usize], c: us
 // One of the level's lines fails at the node.
 fn fresh_fails(table: &[u8], start: &[usize], level: Level, c: usize, e: usize, v: usize, sets: Sets) -> bool
     requires { ⌜ FreshGiven (now table) (now start) c e v level sets ⌝ }
-    ensures { λ r. ⌜ r ≡ freshFails (now (table .entry)) sets (level .fresh) (level .few) ⌝ }
+    ensures { λ r. ⌜ r ≡ freshFails (now (table .entry)) (sets .set) (level .fresh) (level .few) ⌝ }
 {
     let set = sets.set;
     let fresh = level.fresh;

@@ -1,0 +1,78 @@
+use borrow.Author.Needs.{needs}
+use Rattle.level.proofs.is_dead.Statement.{statement}
+use Rattle.level.proofs.is_dead.Tie as tie
+use Rattle.level.proofs.is_dead.Reads as reads
+use Rattle.level.proofs.is_dead.Lts as lts
+use Rattle.level.proofs.fresh_fails.Reads as fresh-fails-reads
+use Rattle.level.proofs.newly_mask.Reads as newly-mask-reads
+use Rattle.node.proofs.depends_row.Reads as depends-row-reads
+
+-- src/lib.rt:119:13
+sub-y : tie.Need-sub-y
+sub-y c = search needs
+
+-- src/lib.rt:122:66
+mul-depends-row : tie.Need-mul-depends-row
+mul-depends-row c = ?
+
+-- src/lib.rt:122:66
+array-read-depends-row : tie.Need-array-read-depends-row
+array-read-depends-row c = ?
+
+-- src/lib.rt:122:36
+depends-row-requires : tie.Need-depends-row-requires
+depends-row-requires c κs = ?
+
+-- src/lib.rt:122:9
+newly-mask-requires : tie.Need-newly-mask-requires
+newly-mask-requires c κs = ?
+
+-- src/lib.rt:123:18
+cast-if1 : tie.Need-cast-if1
+cast-if1 c = ?
+
+-- src/lib.rt:123:9
+shr-if1 : tie.Need-shr-if1
+shr-if1 c = ?
+
+-- src/lib.rt:124:9
+returns : tie.Need-returns
+returns c = ?
+
+-- src/lib.rt:126:18
+cast-if2 : tie.Need-cast-if2
+cast-if2 c = ?
+
+-- src/lib.rt:126:9
+shr-if2 : tie.Need-shr-if2
+shr-if2 c = ?
+
+-- src/lib.rt:127:9
+returns-2 : tie.Need-returns-2
+returns-2 c = ?
+
+-- src/lib.rt:129:5
+fresh-fails-requires : tie.Need-fresh-fails-requires
+fresh-fails-requires c κs = ?
+
+-- src/lib.rt:102:1
+returns-3 : tie.Need-returns-3
+returns-3 c = ?
+
+pub is-dead-spec : {M : Type 1} → statement M
+is-dead-spec =
+    tie.close
+    (tie.spec
+    sub-y
+    mul-depends-row
+    array-read-depends-row
+    depends-row-requires
+    newly-mask-requires
+    cast-if1
+    shr-if1
+    returns
+    cast-if2
+    shr-if2
+    returns-2
+    fresh-fails-requires
+    returns-3)

@@ -1,7 +1,7 @@
 -- Laws of a level.
 --
 --   new-start, new-more, new-skip, new-whole == the loop that follows the newest variable's dependences
---   listed-start, listed-more, listed-skip, listed-whole == the loop that lists lines
+--   listed-start, turn-more, turn-skip, listed-whole == the loop that lists lines
 --   passing-same, passing-below, passing-any == the numbers that pass a test
 --   fresh-none, fresh-some == whether a line is listed, by its mask
 --   about-says, near-says, fresh-says == what the two masks of a level say, and so which lines it lists
@@ -143,15 +143,27 @@ module _ (q : ℕ → Bool) where
   pub listed-start : (fresh : List ℕ) → Listed q 0 fresh 0
   listed-start fresh = record { numbers = unfold passing in refl; few-fit = omega arith }
 
-  pub listed-more : (n few : ℕ) (fresh : List ℕ) → q n ≡ true → few < length fresh → Listed q n fresh few → Listed q (n + 1) (set fresh few n) (few + 1)
+  listed-more : (n few : ℕ) (fresh : List ℕ) → q n ≡ true → few < length fresh → Listed q n fresh few → Listed q (n + 1) (set fresh few n) (few + 1)
   listed-more n few fresh e h l =
       record {
         numbers = ap (λ (k : ℕ). take k (set fresh few n)) (add-one few) ∙ take-suc-set fresh few n h ∙ ap (λ (x : List ℕ). x ++ (n ∷ [])) (l .numbers) ∙ sym (passing-hit n e);
         few-fit = rw length-set (omega arith)
       }
 
-  pub listed-skip : (n few : ℕ) (fresh : List ℕ) → q n ≡ false → Listed q n fresh few → Listed q (n + 1) fresh few
+  listed-skip : (n few : ℕ) (fresh : List ℕ) → q n ≡ false → Listed q n fresh few → Listed q (n + 1) fresh few
   listed-skip n few fresh e l = record { numbers = l .numbers ∙ sym (passing-miss n e); few-fit = l .few-fit }
+
+  -- a turn of the loop, with what the branch left
+  pub turn-more : (n few after : ℕ) (fresh list : List ℕ) → q n ≡ true → few ≤ n → n < 64 → length fresh ≡ 64 → list ≡ set fresh few n → after ≡ few + 1
+      → Listed q n fresh few → (after ≤ n + 1) × (length list ≡ 64) × Listed q (n + 1) list after
+  turn-more n few after fresh list e h k room a b l =
+      (omega arith, ap length a ∙ length-set fresh few n ∙ room,
+      subst (λ (x : List ℕ). Listed q (n + 1) x after) (sym a) (subst (Listed q (n + 1) (set fresh few n)) (sym b) (listed-more n few fresh e (omega arith) l)))
+
+  pub turn-skip : (n few after : ℕ) (fresh list : List ℕ) → q n ≡ false → few ≤ n → length fresh ≡ 64 → list ≡ fresh → after ≡ few
+      → Listed q n fresh few → (after ≤ n + 1) × (length list ≡ 64) × Listed q (n + 1) list after
+  turn-skip n few after fresh list e h room a b l =
+      (omega arith, ap length a ∙ room, subst (λ (x : List ℕ). Listed q (n + 1) x after) (sym a) (subst (Listed q (n + 1) fresh) (sym b) (listed-skip n few fresh e l)))
 
   pub listed-whole : (m n few : ℕ) (fresh : List ℕ) → n ≤ m → m ≤ n → Listed q n fresh few → Listed q m fresh few
   listed-whole m n few fresh h k l = let e : n ≡ m = omega arith in subst (λ (i : ℕ). Listed q i fresh few) e l

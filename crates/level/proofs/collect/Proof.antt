@@ -5,7 +5,7 @@ use Prim.Native.Nat.{ℕ, _-_, _≤_}
 use native.Mathlib.Omega.{arith}
 use lib.ListN.{length, length-set}
 use Rattle.level.specs.Level.{isFresh, Listed}
-use Rattle.level.specs.LevelLaws.{listed-start, listed-more, listed-skip, listed-whole}
+use Rattle.level.specs.LevelLaws.{listed-start, turn-more, turn-skip, listed-whole}
 use borrow.Author.Needs.{needs}
 use Rattle.level.proofs.collect.Statement.{statement}
 use Rattle.level.proofs.collect.Tie as tie
@@ -58,7 +58,16 @@ loop-less c = search needs
 
 -- src/lib.rt:56:5
 loop-again : tie.Need-loop-again Inv-loop μ-loop
-loop-again c = ?la
+unfolding isFresh
+loop-again c =
+    (let l = c .before .before .before .before .loop in
+    let k = c .before .before .before .loop-test .taken in
+    let m = c .before .before .before .before .before .before .pre in
+    let t = ⊎-elim
+        (λ w. turn-more _ (l .n) (l .few) _ (l .fresh) _ (sym (c .before .passes .ensures) ∙ w .0 .taken) (l .inv .1) (omega arith) (l .inv .2) (w .1) (w .2) (l .inv .3))
+        (λ w. turn-skip _ (l .n) (l .few) _ (l .fresh) _ (sym (c .before .passes .ensures) ∙ w .0 .left) (l .inv .1) (l .inv .2) (w .1) (w .2) (l .inv .3))
+        (c .if1 .came) in
+    (omega arith, t .0, t .1, t .2))
 
 -- src/lib.rt:49:1
 returns : tie.Need-returns Inv-loop μ-loop

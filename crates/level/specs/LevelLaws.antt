@@ -7,7 +7,7 @@
 --   about-says, near-says, fresh-says == what the two masks of a level say, and so which lines it lists
 --   lines-start, lines-fail, lines-next, lines-whole, fresh-in, fresh-line == the loop over the lines listed
 --   node-child, parent-shows == the node above the node of the sets
---   level-whole            == the level that is made so
+--   level-whole, level-made == the level that is made so
 --   below-given, dead-cycle, dead-open, dead-fresh == the test of a child by its level
 use mathlib.Core.Path.{_≡_, refl, sym, ap, ap₂, subst, _∙_}
 use mathlib.Core.Bool.{Bool, true, false, _&&_, _||_, not}
@@ -44,7 +44,7 @@ use Rattle.node.specs.CodeLaws.{eqb-comm, mask-one}
 use Rattle.node.specs.ReadyLaws.{every-among, among-every, ready-by, none-by, leads-says}
 use Rattle.node.specs.SquareLaws.{depends-filled, set-node, length-node, reaches-unchosen}
 use Rattle.node.specs.DeadLaws.{same-holds, any-below}
-use Rattle.node.specs.NodeTestLaws.{node-layout, node-few}
+use Rattle.node.specs.NodeTestLaws.{node-layout, node-few, square-needs}
 use Rattle.level.specs.declared.Level.{Level}
 use Rattle.level.specs.Level.{newBy, passing, freshMask, isFresh, Listed, Levels, failsAt, freshFails, FreshGiven}
 
@@ -66,17 +66,17 @@ module _ (rows : List ℕ) (d : ℕ) where
       bit-or y m (rowOf rows n) ∙ ap (λ (b : Bool). b || bit y (rowOf rows n)) (is y)
       ∙ or-assoc (bit y d) (anyBelow n (λ u. bit u d && bit y (rowOf rows u))) (bit y (rowOf rows n))
       ∙ ap (λ (b : Bool). bit y d || b)
-        (ap (λ (b : Bool). anyBelow n (λ u. bit u d && bit y (rowOf rows u)) || b) (sym (ap (λ (b : Bool). b && bit y (rowOf rows n)) e))
-        ∙ sym (anyBelow-next n (λ u. bit u d && bit y (rowOf rows u))))
+      (ap (λ (b : Bool). anyBelow n (λ u. bit u d && bit y (rowOf rows u)) || b) (sym (ap (λ (b : Bool). b && bit y (rowOf rows n)) e))
+      ∙ sym (anyBelow-next n (λ u. bit u d && bit y (rowOf rows u))))
 
   pub new-skip : (n m : ℕ) → bit n d ≡ false → Masks (newBy rows d n) m → Masks (newBy rows d (n + 1)) m
   unfolding newBy
   new-skip n m e is y =
       is y
       ∙ ap (λ (b : Bool). bit y d || b)
-        (sym (or-none (anyBelow n (λ u. bit u d && bit y (rowOf rows u))))
-        ∙ ap (λ (b : Bool). anyBelow n (λ u. bit u d && bit y (rowOf rows u)) || b) (sym (ap (λ (b : Bool). b && bit y (rowOf rows n)) e))
-        ∙ sym (anyBelow-next n (λ u. bit u d && bit y (rowOf rows u))))
+      (sym (or-none (anyBelow n (λ u. bit u d && bit y (rowOf rows u))))
+      ∙ ap (λ (b : Bool). anyBelow n (λ u. bit u d && bit y (rowOf rows u)) || b) (sym (ap (λ (b : Bool). b && bit y (rowOf rows n)) e))
+      ∙ sym (anyBelow-next n (λ u. bit u d && bit y (rowOf rows u))))
 
   pub new-whole : (n z m : ℕ) → z ≤ n → n ≤ z → Masks (newBy rows d z) m → Masks (newBy rows d n) m
   new-whole n z m h k is = let e : z ≡ n = omega arith in subst (λ (i : ℕ). Masks (newBy rows d i) m) e is
@@ -147,7 +147,7 @@ module _ (q : ℕ → Bool) where
   listed-more n few fresh e h l =
       record {
         numbers = ap (λ (k : ℕ). take k (set fresh few n)) (add-one few) ∙ take-suc-set fresh few n h ∙ ap (λ (x : List ℕ). x ++ (n ∷ [])) (l .numbers) ∙ sym (passing-hit n e);
-        few-fit = rw length-set (omega arith)
+        few-fit = rw length-set (omega arith);
       }
 
   listed-skip : (n few : ℕ) (fresh : List ℕ) → q n ≡ false → Listed q n fresh few → Listed q (n + 1) fresh few
@@ -156,9 +156,11 @@ module _ (q : ℕ → Bool) where
   -- a turn of the loop, with what the branch left
   pub turn-more : (n few after : ℕ) (fresh list : List ℕ) → q n ≡ true → few ≤ n → n < 64 → length fresh ≡ 64 → list ≡ set fresh few n → after ≡ few + 1
       → Listed q n fresh few → (after ≤ n + 1) × (length list ≡ 64) × Listed q (n + 1) list after
-  turn-more n few after fresh list e h k room a b l =
-      (omega arith, ap length a ∙ length-set fresh few n ∙ room,
-      subst (λ (x : List ℕ). Listed q (n + 1) x after) (sym a) (subst (Listed q (n + 1) (set fresh few n)) (sym b) (listed-more n few fresh e (omega arith) l)))
+  turn-more n few after fresh list e h k room a b l = (
+    omega arith,
+    ap length a ∙ length-set fresh few n ∙ room,
+    subst (λ (x : List ℕ). Listed q (n + 1) x after) (sym a) (subst (Listed q (n + 1) (set fresh few n)) (sym b) (listed-more n few fresh e (omega arith) l)),
+  )
 
   pub turn-skip : (n few after : ℕ) (fresh list : List ℕ) → q n ≡ false → few ≤ n → length fresh ≡ 64 → list ≡ fresh → after ≡ few
       → Listed q n fresh few → (after ≤ n + 1) × (length list ≡ 64) × Listed q (n + 1) list after
@@ -334,9 +336,18 @@ module _ (s start : List ℕ) (c e v : ℕ) (level : Level) (sets : Sets) (given
   fresh-line i n h q room =
       let k : n < byteAt s 9 = (let z : getD (level .fresh) i 0 < byteAt s 9 = given .in-table i h in omega arith) in
       record {
-        readable = given .readable; constants = given .constants; restrictions = given .restrictions; variables = given .variables; sets = room;
-        acyclic = given .straight; line = k; begins = (unfold LineStarts in given .starts n k)
+        readable = given .readable;
+        constants = given .constants;
+        restrictions = given .restrictions;
+        variables = given .variables;
+        sets = room;
+        acyclic = given .straight;
+        line = k;
+        begins = (unfold LineStarts in given .starts n k);
       }
+
+pub child-needs : (s : List ℕ) (c e v m : ℕ) (sets : Sets) → NodeGiven s c e v m sets → (fill mask start : List ℕ) → Prepares s fill mask start → (c + e ≤ 24) × (e ≤ length fill)
+child-needs s c e v m sets given fill mask start ready = let q = square-needs s c e v m sets given fill (ready .fill-room) in (q .0, q .1)
 
 ----------------------------------------------------------------------------------------------------
 -- The level of a node of the code
@@ -382,7 +393,7 @@ module _ (s : List ℕ) (c e v m : ℕ) (sets : Sets) (given : NodeGiven s c e v
       record {
         constants = given .constants ∙ sym (node-layout s c e v m sets given .constants);
         restrictions = given .restrictions ∙ sym (node-layout s c e v m sets given .rows);
-        masks = subst (λ (k : ℕ). FillMasks (tableOf s .rows) k fill) (sym (given .restrictions)) (ready .fills)
+        masks = subst (λ (k : ℕ). FillMasks (tableOf s .rows) k fill) (sym (given .restrictions)) (ready .fills);
       }
 
   module _ (fill mask start : List ℕ) (ready : Prepares s fill mask start) where
@@ -400,7 +411,7 @@ module _ (s : List ℕ) (c e v m : ℕ) (sets : Sets) (given : NodeGiven s c e v
     level-whole level y a k q shows about near listed =
         record {
           rows = shows;
-          lines = record { numbers = listed .numbers ∙ passing-same (isFresh mask (bitOr a (1 * 2 ^ y % 4294967296)) k) (λ n. freshly (tableOf s) parent (lineAt (tableOf s .lines) n)) m each; few-fit = listed .few-fit }
+          lines = record { numbers = listed .numbers ∙ passing-same (isFresh mask (bitOr a (1 * 2 ^ y % 4294967296)) k) (λ n. freshly (tableOf s) parent (lineAt (tableOf s .lines) n)) m each; few-fit = listed .few-fit };
         }
       where
         known : T (declared (tableOf s))
@@ -418,6 +429,25 @@ module _ (s : List ℕ) (c e v m : ℕ) (sets : Sets) (given : NodeGiven s c e v
             (subst (λ (i : ℕ). LineMasks (tableOf s) i mask) (sym (given .lines)) (ready .masks)) h
             (about-says (tableOf s) known parent (level .row) parent-few shows y a here small about)
             (near-says (tableOf s) known parent (level .row) parent-few shows y k here near)
+
+    -- the same, with the square's rows at hand
+    pub level-made : (level : Level) (rows : List ℕ) (y a k : ℕ) → level .row ≡ rows → y ≡ sets .chosen - 1 → Shows (tableOf s) parent rows
+        → Masks (leadsBy rows y y) a → Masks (settledBy rows (y + 1) (y + 1)) k
+        → Listed (isFresh mask (bitOr a (1 * 2 ^ y % 4294967296)) k) m (level .fresh) (level .few) → Levels (tableOf s) parent m level
+    level-made level rows y a k r q shows about near listed =
+        level-whole level y a k q (subst (Shows (tableOf s) parent) (sym r) shows)
+        (subst (λ (x : List ℕ). Masks (leadsBy x y y) a) (sym r) about) (subst (λ (x : List ℕ). Masks (settledBy x (y + 1) (y + 1)) k) (sym r) near) listed
+
+    pub parent-needs : (c + e ≤ 24) × (e ≤ length fill) × (sets .chosen - 1 ≤ 12) × Clean (record { set = set (sets .set) (sets .chosen - 1) 0; chosen = sets .chosen - 1 })
+    unfolding Clean
+    parent-needs =
+        let l = node-layout s c e v m sets given in
+        let f : byteAt s 5 + byteAt s 8 ≤ 24 = l .few-atoms in let a : c ≡ byteAt s 5 = given .constants in let b : e ≡ byteAt s 8 = given .restrictions in
+        let h : sets .chosen ≤ 12 = node-few s c e v m sets given in let r : length fill ≡ 24 = ready .fill-room in
+        (omega arith, omega arith, omega arith, parent-clean)
+
+    pub few-lines : (m ≤ 64) × (length mask ≡ 64)
+    few-lines = let f : byteAt s 9 ≤ 64 = node-layout s c e v m sets given .few-lines in let q : m ≡ byteAt s 9 = given .lines in (omega arith, ready .mask-room)
 
     -- THE TEST OF A CHILD
     module _ (level : Level) (is : Levels (tableOf s) parent m level) (live : LiveAbove (tableOf s) (nodeOf sets)) (d leads : ℕ)
@@ -512,19 +542,24 @@ module _ (s : List ℕ) (c e v m : ℕ) (sets : Sets) (given : NodeGiven s c e v
           pub below-given : FreshGiven s start c e v level sets
           below-given =
               record {
-                readable = given .readable; constants = given .constants; restrictions = given .restrictions; variables = given .variables;
-                starts = ready .starts; room = ready .start-room;
+                readable = given .readable;
+                constants = given .constants;
+                restrictions = given .restrictions;
+                variables = given .variables;
+                starts = ready .starts;
+                room = ready .start-room;
                 straight = subst T (ap (acyclic (tableOf s)) (sym node-child) ∙ acyclic-same (tableOf s) (nodeOf sets) (sets .set) same-sets) (true-is (acyclic (tableOf s) (childOf parent own)) straight);
-                few-fit = is .lines .few-fit; in-table = λ i h. inside i h
+                few-fit = is .lines .few-fit;
+                in-table = λ i h. inside i h;
               }
             where
               inside : (i : ℕ) → i < level .few → getD (level .fresh) i 0 < byteAt s 9
               inside i h =
                   let n : length (take (level .few) (level .fresh)) ≡ level .few = length-take-le (level .few) (level .fresh) (is .lines .few-fit) in
                   let k : getD (passing (λ n. freshly (tableOf s) parent (lineAt (tableOf s .lines) n)) m) i 0 < m =
-                    passing-below (λ n. freshly (tableOf s) parent (lineAt (tableOf s .lines) n)) m i (subst (λ (l : List ℕ). i < length l) (is .lines .numbers) (omega arith)) in
+                  passing-below (λ n. freshly (tableOf s) parent (lineAt (tableOf s .lines) n)) m i (subst (λ (l : List ℕ). i < length l) (is .lines .numbers) (omega arith)) in
                   let q : getD (level .fresh) i 0 ≡ getD (passing (λ n. freshly (tableOf s) parent (lineAt (tableOf s .lines) n)) m) i 0 =
-                    sym (getD-take (level .few) (level .fresh) i 0 h) ∙ ap (λ (l : List ℕ). getD l i 0) (is .lines .numbers) in
+                  sym (getD-take (level .few) (level .fresh) i 0 h) ∙ ap (λ (l : List ℕ). getD l i 0) (is .lines .numbers) in
                   let z : m ≡ byteAt s 9 = given .lines in omega arith
 
           -- one of the level's lines fails exactly if the node is dead

@@ -8,7 +8,6 @@ ghost use Rattle.el.specs.Walk.{dead};
 ghost use Rattle.table.specs.Reading.{tableOf};
 ghost use Rattle.node.specs.Node.{nodeOf, NodeGiven, Prepares, LiveAbove, Masks};
 ghost use Rattle.level.specs.Level.{newBy, freshMask, isFresh, Listed, Levels, FreshGiven, freshFails};
-
 use node::Sets;
 use node::Square;
 
@@ -46,9 +45,9 @@ fn passes(own: u32, about: u32, near: u32) -> bool
 }
 
 // The lines, m in number, that have a variable of `about` and only variables of `near`.
-fn collect(mask: &[u32], m: usize, about: u32, near: u32, row: [u32; 12]) -> Level
+fn collect(mask: &[u32], m: usize, about: u32, near: u32, square: Square) -> Level
     requires { ⌜ (m ≤ 64) × (length (now mask) ≡ 64) ⌝ }
-    ensures { λ r. ⌜ (r .row ≡ row) × Listed (isFresh (now (mask .entry)) about near) m (r .fresh) (r .few) ⌝ }
+    ensures { λ r. ⌜ (r .row ≡ square .row) × Listed (isFresh (now (mask .entry)) about near) m (r .fresh) (r .few) ⌝ }
 {
     let mut fresh = [0u8; 64];
     let mut few: usize = 0;
@@ -60,11 +59,22 @@ fn collect(mask: &[u32], m: usize, about: u32, near: u32, row: [u32; 12]) -> Lev
         }
         n += 1;
     }
+    let row = square.row;
     Level { row, fresh, few }
 }
 
 // The level of a node: that of its parent's children.
-pub fn level_of(table: &[u8], fill: &[u32], mask: &[u32], start: &[usize], c: usize, e: usize, v: usize, m: usize, sets: Sets) -> Level
+pub fn level_of(
+    table: &[u8],
+    fill: &[u32],
+    mask: &[u32],
+    start: &[usize],
+    c: usize,
+    e: usize,
+    v: usize,
+    m: usize,
+    sets: Sets,
+) -> Level
     requires { ⌜ NodeGiven (now table) c e v m sets × Prepares (now table) (now fill) (now mask) (now start) × (0 < sets .chosen) ⌝ }
     ensures { λ r. ⌜ Levels (tableOf (now (table .entry))) (take (sets .chosen - 1) (sets .set)) m r ⌝ }
 {
@@ -74,12 +84,19 @@ pub fn level_of(table: &[u8], fill: &[u32], mask: &[u32], start: &[usize], c: us
     let square = node::square_of(fill, c, e, Sets { set, chosen: y });
     let about = node::leads_mask(square, y, y) | (1u32 << y);
     let near = node::settled_mask(square, y + 1);
-    let row = square.row;
-    collect(mask, m, about, near, row)
+    collect(mask, m, about, near, square)
 }
 
 // One of the level's lines fails at the node.
-fn fresh_fails(table: &[u8], start: &[usize], level: Level, c: usize, e: usize, v: usize, sets: Sets) -> bool
+fn fresh_fails(
+    table: &[u8],
+    start: &[usize],
+    level: Level,
+    c: usize,
+    e: usize,
+    v: usize,
+    sets: Sets,
+) -> bool
     requires { ⌜ FreshGiven (now table) (now start) c e v level sets ⌝ }
     ensures { λ r. ⌜ r ≡ freshFails (now (table .entry)) (sets .set) (level .fresh) (level .few) ⌝ }
 {

@@ -14,11 +14,11 @@ use Rattle.level.proofs.collect.Lts as lts
 use Rattle.level.proofs.passes.Reads as passes-reads
 
 abbrev Inv-loop : tie.InvT-loop
-Inv-loop mask m about near row fresh₀ few₀ n₀ fresh few n =
+Inv-loop mask m about near square fresh₀ few₀ n₀ fresh few n =
     (n ≤ m) × (few ≤ n) × (length fresh ≡ 64) × Listed (isFresh mask about near) n fresh few
 
 abbrev μ-loop : tie.MeasureT-loop
-μ-loop mask m about near row fresh₀ few₀ n₀ fresh few n = m - n
+μ-loop mask m about near square fresh₀ few₀ n₀ fresh few n = m - n
 
 -- src/lib.rt:56:5
 loop-holds : tie.Need-loop-holds Inv-loop μ-loop
@@ -64,14 +64,14 @@ loop-again c =
     let k = c .before .before .before .loop-test .taken in
     let m = c .before .before .before .before .before .before .pre in
     let t = ⊎-elim
-        (λ w. turn-more _ (l .n) (l .few) _ (l .fresh) _ (sym (c .before .passes .ensures) ∙ w .0 .taken) (l .inv .1) (omega arith) (l .inv .2) (w .1) (w .2) (l .inv .3))
-        (λ w. turn-skip _ (l .n) (l .few) _ (l .fresh) _ (sym (c .before .passes .ensures) ∙ w .0 .left) (l .inv .1) (l .inv .2) (w .1) (w .2) (l .inv .3))
-        (c .if1 .came) in
+    (λ w. turn-more _ (l .n) (l .few) _ (l .fresh) _ (sym (c .before .passes .ensures) ∙ w .0 .taken) (l .inv .1) (omega arith) (l .inv .2) (w .1) (w .2) (l .inv .3))
+    (λ w. turn-skip _ (l .n) (l .few) _ (l .fresh) _ (sym (c .before .passes .ensures) ∙ w .0 .left) (l .inv .1) (l .inv .2) (w .1) (w .2) (l .inv .3))
+    (c .if1 .came) in
     (omega arith, t .0, t .1, t .2))
 
 -- src/lib.rt:49:1
 returns : tie.Need-returns Inv-loop μ-loop
-returns c = (refl, listed-whole _ _ _ _ _ (c .before .loop .inv .0) (c .loop-test .left) (c .before .loop .inv .3))
+returns c = (refl, listed-whole _ _ _ _ _ (c .before .before .loop .inv .0) (c .before .loop-test .left) (c .before .before .loop .inv .3))
 
 pub collect-spec : {M : Type 1} → statement M
 collect-spec =

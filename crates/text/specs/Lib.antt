@@ -1,0 +1,5 @@
+pub mod Append
+pub mod AppendLaws
+pub mod Text
+pub mod Listing
+pub mod Batch

@@ -5,7 +5,6 @@
 #define BASE_H
 
 typedef __UINT8_TYPE__ u8;
-typedef __UINT16_TYPE__ u16;
 typedef __UINT32_TYPE__ u32;
 typedef __UINT64_TYPE__ u64;
 

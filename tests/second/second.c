@@ -130,7 +130,7 @@ static void read_header(struct reader *reader, struct table *table)
         return;
     }
     reader->at = 5;
-    table->c = next_count(reader, 255); /* judged with e */
+    table->c = next_byte(reader); /* judged with e */
     table->r = next_count(reader, MOST_ROLES);
     table->v = next_count(reader, MOST_VARIABLES);
     table->e = next_byte(reader);

@@ -23,3 +23,5 @@ pub mod CountingLaws
 pub mod GrowthLaws
 pub mod Examples
 pub mod Instances
+pub mod FreshLaws
+pub mod ChildLaws

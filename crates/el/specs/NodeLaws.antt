@@ -66,7 +66,7 @@ unfolding setOf
 set-unchosen s x h = List·getD-eq-default s 0 h
 
 module _ (t : Table) (known : T (declared t)) (s l : Node) where
-  depends-unchosen : (x y : ℕ) → length s ≤ x → depends t s x y ≡ false
+  pub depends-unchosen : (x y : ℕ) → length s ≤ x → depends t s x y ≡ false
   unfolding depends
   depends-unchosen x y h =
       anyBelow-none (length (t .rows)) (λ k. bit (t .constants + k) (setOf s x) && isVariable y (rowAt (t .rows) k .filler))
@@ -88,11 +88,11 @@ module _ (t : Table) (known : T (declared t)) (s l : Node) where
   unfolding Rattle.el.specs.Assignment.Acyclic
   acyclic-stays h = acyclic-means t known s .1 (λ x r. acyclic-means t known (s ++ l) .0 h x (reaches-stays r))
 
-  settled-chosen : (x : ℕ) → T (settled t s x) → x < length s
+  pub settled-chosen : (x : ℕ) → T (settled t s x) → x < length s
   unfolding settled chosen
   settled-chosen x h = ltb→lt x (length s) (and-left (ltb x (length s)) (allBelow (t .variables) (λ y. not (reaches t s x y) || chosen s y)) h)
 
-  settled-reached : (x y : ℕ) → T (settled t s x) → T (reaches t s x y) → y < length s
+  pub settled-reached : (x y : ℕ) → T (settled t s x) → T (reaches t s x y) → y < length s
   unfolding settled chosen
   settled-reached x y h r =
       let g : T (not (reaches t s x y) || ltb y (length s)) = allBelow-at (t .variables) y (λ z. not (reaches t s x z) || chosen s z)
@@ -129,6 +129,10 @@ module _ (t : Table) (known : T (declared t)) (s l : Node) where
 ----------------------------------------------------------------------------------------------------
 -- Dead, and what ends the walk
 
+-- what stands for a line where there is none
+abbrev pub noLine : Line
+noLine = record { left = []; right = constant 0 }
+
 module _ (under : ℕ → ℕ → Bool) (t : Table) where
   pub dead-cyclic : (s : Node) → acyclic t s ≡ false → dead under t s ≡ true
   unfolding dead
@@ -137,9 +141,6 @@ module _ (under : ℕ → ℕ → Bool) (t : Table) where
   pub dead-lines : (s : Node) → acyclic t s ≡ true → dead under t s ≡ anyOf (fails under t s) (t .lines)
   unfolding dead
   dead-lines s e = rw (e, dead)
-
-  abbrev noLine : Line
-  noLine = record { left = []; right = constant 0 }
 
   module _ (known : T (declared t)) where
     -- NO NODE BELOW A DEAD ONE SOLVES

@@ -7,23 +7,34 @@
 --   line-over     == there is no line m or more
 --   line-room     == a line lies inside its table
 --   line-there    == the part that is line n
+--   finish-found, finish-nothing, finish-spent == the answer to the end of a walk
+--   solve-refused, solve-short, solve-walked == the solver's answer, by what it meets first
 use mathlib.Core.Path.{_≡_, refl, sym, ap, subst, _∙_}
 use mathlib.Core.Bool.{Bool, true, false, _&&_, cond}
 use mathlib.Core.List.{List, []}
-use Prim.Native.Nat.{ℕ, _+_, _-_, _≤_, _<_}
+use Prim.Native.Nat.{ℕ, _+_, _-_, _*_, _≤_, _<_}
 use native.Mathlib.Omega.{arith}
 use lib.Dec.{T, ltb}
 use lib.ListN.{length, take, drop}
 use borrow.Author.Tests.{lt-ltb, le-ltb}
-use Rattle.el.specs.Table.{Table}
-use Rattle.table.specs.declared.Verdict.{Verdict}
 use Rattle.table.specs.declared.Verdict.the-variants.{Refused, Readable}
-use Rattle.table.specs.Reading.{byteAt, Header, headerOf, Reading, refusal, readable, reading, isReadable}
+use Rattle.el.specs.Description.{sameRole}
+use Rattle.el.specs.Table.{Table}
+use Rattle.el.specs.Walk.{Outcome, outcome}
+use Rattle.table.specs.Reading.{byteAt, Header, headerOf, Reading, refusal, readable, reading, isReadable, tableOf}
 use Rattle.table.specs.Step.{verdictOf}
 use Rattle.table.specs.Layout.{lineStart}
 use Rattle.table.specs.LayoutLaws.{layout, readable-header}
-use Rattle.makrothel.specs.declared.ReadAnswer.{ReadAnswer}
+use Rattle.node.specs.Node.{nodeOf}
+use Rattle.walk.specs.declared.End.{End}
+use Rattle.walk.specs.declared.End.the-variants.{Found, Nothing, Spent}
+use Rattle.walk.specs.declared.Walked.{Walked}
+use Rattle.walk.specs.Step as step
+use Rattle.output.specs.Written.{written}
 use Rattle.makrothel.specs.Answer.{readAnswer, linePart}
+use Rattle.makrothel.specs.Solve.{Answered, refusedAs, outcomeAs, tableAs, readingAs, answer}
+use Rattle.makrothel.specs.Demand2.{answer-outcome}
+use Rattle.makrothel.specs.Demand1.{answer-short}
 
 refused-readable : (n p : ℕ) → Refused n p ≡ Readable → ⊥
 refused-readable n p q = let z : _≡_ {A = ℕ} 0 1 = cc in omega arith
@@ -87,3 +98,52 @@ module _ (s : List ℕ) where
         ap (λ (i : ℕ). take i (drop at s)) (let z : at + p + 2 - at ≡ byteAt s at + 2 = omega arith in z)
         ∙ ap (λ (i : ℕ). take (byteAt s i + 2) (drop i s)) a
         ∙ tested true (lt-ltb k (byteAt s 9) h)
+
+----------------------------------------------------------------------------------------------------
+-- The end of a walk
+
+module _ (w : Walked) (out : List ℕ) where
+  ended : (e : End) → w .end ≡ e → outcomeAs (step.outcomeAs e (w .count) (nodeOf (w .sets))) out ≡ outcomeAs (step.outcomeOf w) out
+  unfolding step.outcomeOf
+  ended e q = ap (λ (x : End). outcomeAs (step.outcomeAs x (w .count) (nodeOf (w .sets))) out) (sym q)
+
+  pub finish-found : (after : List ℕ) → w .end ≡ Found → after ≡ written (take (w .sets .chosen) (w .sets .set)) out
+      → _≡_ {A = Answered} (record { number = 0; count = w .count; place = 0; output = after }) (outcomeAs (step.outcomeOf w) out)
+  unfolding nodeOf
+  finish-found after q h = ap (λ (o : List ℕ). record { number = 0; count = w .count; place = 0; output = o }) h ∙ ended Found q
+
+  pub finish-nothing : w .end ≡ Nothing → _≡_ {A = Answered} (record { number = 8; count = w .count; place = 0; output = out }) (outcomeAs (step.outcomeOf w) out)
+  finish-nothing q = ended Nothing q
+
+  pub finish-spent : w .end ≡ Spent → _≡_ {A = Answered} (record { number = 9; count = w .count; place = 0; output = out }) (outcomeAs (step.outcomeOf w) out)
+  finish-spent q = ended Spent q
+
+----------------------------------------------------------------------------------------------------
+-- The solver
+
+module _ (s : List ℕ) (b : ℕ) (out : List ℕ) where
+  pub solve-refused : (n p : ℕ) → verdictOf (reading s) ≡ Refused n p → refusedAs n p out ≡ answer s b out
+  unfolding answer verdictOf
+  solve-refused n p q = go (reading s) q
+    where
+      go : (x : Reading) → verdictOf x ≡ Refused n p → refusedAs n p out ≡ readingAs x b out
+      go (refusal m r) e = let h : m ≡ n = cc in let k : r ≡ p = cc in sym (ap (λ (i : ℕ). refusedAs i r out) h ∙ ap (λ (i : ℕ). refusedAs n i out) k)
+      go (readable h t) e = absurd (refused-readable n p (sym e))
+
+  the-reading : verdictOf (reading s) ≡ Readable → reading s ≡ readable (headerOf s) (tableOf s)
+  the-reading q = go (reading s) refl (readable-is s q)
+    where
+      go : (x : Reading) → reading s ≡ x → T (isReadable (reading s)) → reading s ≡ readable (headerOf s) (tableOf s)
+      go (refusal n p) e ok = absurd (subst (λ (x : Reading). T (isReadable x)) e ok)
+      go (readable h t) e ok = let k = readable-header s h t e in e ∙ ap (λ (x : Header). readable x t) (k .0) ∙ ap (readable (headerOf s)) (k .1)
+
+  variables : verdictOf (reading s) ≡ Readable → tableOf s .variables ≡ byteAt s 7
+  variables q = layout s (readable-is s q) .variables
+
+  pub solve-short : (v : ℕ) → v ≡ byteAt s 7 → verdictOf (reading s) ≡ Readable → length out < 4 * v → refusedAs 7 (4 * v) out ≡ answer s b out
+  solve-short v e q l =
+      let h : tableOf s .variables ≡ v = variables q ∙ sym e in
+      sym (answer-short s b out (headerOf s) (tableOf s) (the-reading q) (omega arith) ∙ ap (λ (k : ℕ). refusedAs 7 (4 * k) out) h)
+
+  pub solve-walked : (v : ℕ) → v ≡ byteAt s 7 → verdictOf (reading s) ≡ Readable → 4 * v ≤ length out → outcomeAs (outcome sameRole (tableOf s) b) out ≡ answer s b out
+  solve-walked v e q l = let h : tableOf s .variables ≡ v = variables q ∙ sym e in sym (answer-outcome s (headerOf s) (tableOf s) (the-reading q) b out (omega arith))

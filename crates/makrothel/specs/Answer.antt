@@ -2,7 +2,7 @@
 --
 --   readAnswer r == the reader's number, place and five counts for a reading
 --   linePart s n == line n of the bytes s, from its left count to its right code, or nothing
-use mathlib.Core.Bool.{Bool, true, false, _&&_, cond}
+use mathlib.Core.Bool.{_&&_, cond}
 use mathlib.Core.List.{List, []}
 use Prim.Native.Nat.{ℕ, _+_}
 use lib.Dec.{ltb}

@@ -130,9 +130,25 @@ every (k ∷ ks) c = (answers k (c .0), every ks (c .1))
 
 computed : Every Computes cases
 unfolding outcome count examined firstOf upToFirst nodes subtree inTurn ends full dead fails ready settled lineVariables chosen induced inducedTo setUnder conjoin atomUnder acyclic reaches path depends setOf holds rowAt atoms anyBelow allBelow anyOf everyOf bit sameRole tableOf reading readBody readLines readLine readEntries readEntry readRows readRow readHeader versionOne marked entryOf entryOfKind fillerOf fillerOfKind within kindOf
-computed =
-    ((refl, refl, refl), ((refl, refl, refl), ((refl, refl, refl), ((refl, refl, refl), ((refl, refl, refl), ((refl, refl, refl),
-    ((refl, refl, refl), ((refl, refl, refl), ((refl, refl, refl), ((refl, refl, refl), ((refl, refl, refl), ((refl, refl, refl), tt))))))))))))
+computed = (
+  (refl, refl, refl),
+  (
+    (refl, refl, refl),
+    (
+      (refl, refl, refl),
+      (
+        (refl, refl, refl),
+        (
+          (refl, refl, refl),
+          (
+            (refl, refl, refl),
+            ((refl, refl, refl), ((refl, refl, refl), ((refl, refl, refl), ((refl, refl, refl), ((refl, refl, refl), ((refl, refl, refl), tt)))))),
+          ),
+        ),
+      ),
+    ),
+  ),
+)
 
 -- P1 TO P12
 pub cases-hold : Every Answers cases

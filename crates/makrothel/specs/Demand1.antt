@@ -79,9 +79,12 @@ module _ (s : List ℕ) (b : ℕ) (out : List ℕ) where
 
     walked : (4 * t .variables ≤ length out) → (o : Outcome) → OutcomeSays sameRole t (known s h t e) b o → Row s b out (outcomeAs o out)
     walked room (solved n a) w =
-        record { row = subst (λ (k : ℕ). NumberAt s b 0 k 0) (ap N same ∙ sym (w .0)) is-solved; kept = λ f. absurd (f refl);
-        behind = λ _. subst (λ (u : Table). (drop (4 * u .variables) (written a out) ≡ drop (4 * u .variables) out) × (length (written a out) ≡ length out)) (sym same)
-        (written-behind (t .variables) a out (unfold IsAssignment in w .2 .0 .0) room) }
+        record {
+          row = subst (λ (k : ℕ). NumberAt s b 0 k 0) (ap N same ∙ sym (w .0)) is-solved;
+          kept = λ f. absurd (f refl);
+          behind = λ _. subst (λ (u : Table). (drop (4 * u .variables) (written a out) ≡ drop (4 * u .variables) out) × (length (written a out) ≡ length out)) (sym same)
+              (written-behind (t .variables) a out (unfold IsAssignment in w .2 .0 .0) room);
+        }
     walked room (nothing n) w =
         record { row = subst (λ (k : ℕ). NumberAt s b 8 k 0) (ap N same ∙ sym (w .0)) is-none; kept = λ _. refl; behind = λ z. absurd (let y : ⊥ = omega arith in y) }
     walked room (budget n) w =

@@ -74,12 +74,20 @@ module _ (s : List ℕ) (h : Header) (t : Table) (read : reading s ≡ readable 
 
       go : (o : Outcome) → OutcomeSays sameRole t (known s h t read) b o → Says (outcomeAs o out)
       go (solved n a) w =
-          is-solved ((let q : n ≡ N t = w .0 in let l : n ≤ b = w .1 in omega arith),
-          (a, (unfold FirstSolving in (w .2 .0, solves-means sameRole t (known s h t read) a .0 (w .2 .1), λ m i g l. w .2 .2 m i (bool m g) l)),
-          ap (λ (k : ℕ). record { number = 0; count = k; place = 0; output = written a out }) (w .0)))
+          is-solved (
+            (let q : n ≡ N t = w .0 in let l : n ≤ b = w .1 in omega arith),
+            (
+              a,
+              (unfold FirstSolving in (w .2 .0, solves-means sameRole t (known s h t read) a .0 (w .2 .1), λ m i g l. w .2 .2 m i (bool m g) l)),
+              ap (λ (k : ℕ). record { number = 0; count = k; place = 0; output = written a out }) (w .0),
+            ),
+          )
       go (nothing n) w =
-          is-none ((let q : n ≡ N t = w .0 in let l : n ≤ b = w .1 in omega arith),
-          (unfold NoneSolves in λ m i g. w .2 m i (bool m g)), ap (λ (k : ℕ). record { number = 8; count = k; place = 0; output = out }) (w .0))
+          is-none (
+            (let q : n ≡ N t = w .0 in let l : n ≤ b = w .1 in omega arith),
+            (unfold NoneSolves in λ m i g. w .2 m i (bool m g)),
+            ap (λ (k : ℕ). record { number = 8; count = k; place = 0; output = out }) (w .0),
+          )
       go (budget n) w = is-over (w .1, ap (λ (k : ℕ). record { number = 9; count = k; place = 0; output = out }) (w .0))
 
   number-of : (r q : Answered) → r ≡ q → r .number ≡ q .number

@@ -101,9 +101,11 @@ module _ (s : List ℕ) (b : ℕ) (out : List ℕ) where
   demand-3-solved e =
       let w = walked s b out (inl e) in
       let f = demand-2-solved s (w .header) (w .table) (w .read) b out (w .room) .0 e in
-      let a : Assignment = f .1 .0 in
-      (induced (w .table) a, subst (λ (u : Table). T (makes sameRole u (induced (w .table) a))) (the-table s (w .header) (w .table) (w .read))
-      (solving-substitution sameRole (w .table) a (solution (w .table) a (f .1 .1))))
+      let a : Assignment = f .1 .0 in (
+        induced (w .table) a,
+        subst (λ (u : Table). T (makes sameRole u (induced (w .table) a))) (the-table s (w .header) (w .table) (w .read))
+            (solving-substitution sameRole (w .table) a (solution (w .table) a (f .1 .1))),
+      )
     where
       solution : (t : Table) (a : Assignment) → FirstSolving t a → Solves sameRole t a
       solution t a g = unfold FirstSolving in g .1
@@ -136,15 +138,15 @@ Sized t (solved n a) = length a ≡ t .variables
 Sized t (nothing n) = Unit {0}
 Sized t (budget n) = Unit {0}
 
-module _ (s : List ℕ) (b c : ℕ) (out more : List ℕ) where
-  -- the same number, count and place, and the same bytes of the variables' sets
-  pub record SameAnswer (q r : Answered) : Type 0 where
-    pub number : q .number ≡ r .number
-    pub count : q .count ≡ r .count
-    pub place : q .place ≡ r .place
-    pub bytes : q .number ≡ 0 → take (4 * tableOf s .variables) (q .output) ≡ take (4 * tableOf s .variables) (r .output)
+-- the same number, count and place, and the same bytes of the variables' sets
+pub record SameAnswer (s : List ℕ) (q r : Answered) : Type 0 where
+  pub number : q .number ≡ r .number
+  pub count : q .count ≡ r .count
+  pub place : q .place ≡ r .place
+  pub bytes : q .number ≡ 0 → take (4 * tableOf s .variables) (q .output) ≡ take (4 * tableOf s .variables) (r .output)
 
-  same-outcome : (t : Table) → t ≡ tableOf s → (o : Outcome) → Sized t o → SameAnswer (outcomeAs o out) (outcomeAs o more)
+module _ (s : List ℕ) (b c : ℕ) (out more : List ℕ) where
+  same-outcome : (t : Table) → t ≡ tableOf s → (o : Outcome) → Sized t o → SameAnswer s (outcomeAs o out) (outcomeAs o more)
   same-outcome t e (solved n a) z =
       record { number = refl; count = refl; place = refl; bytes = λ _. subst (λ (u : Table). take (4 * u .variables) (written a out) ≡ take (4 * u .variables) (written a more)) e (start out ∙ sym (start more)) }
     where
@@ -155,10 +157,10 @@ module _ (s : List ℕ) (b c : ℕ) (out more : List ℕ) where
 
   -- A LARGER BUDGET WITH ENOUGH ROOM GIVES THE SAME ANSWER, BYTES AND COUNT
   pub demand-3-budget : (answer s b out .number ≡ 0) ⊎ (answer s b out .number ≡ 8) → b ≤ c → 4 * tableOf s .variables ≤ length more
-      → SameAnswer (answer s b out) (answer s c more)
+      → SameAnswer s (answer s b out) (answer s c more)
   demand-3-budget w l r =
-      subst (λ (x : Answered). SameAnswer x (answer s c more)) (sym first)
-      (subst (SameAnswer (outcomeAs (outcome sameRole t b) out)) (sym second) (same-outcome t here (outcome sameRole t b) sized))
+      subst (λ (x : Answered). SameAnswer s x (answer s c more)) (sym first)
+      (subst (SameAnswer s (outcomeAs (outcome sameRole t b) out)) (sym second) (same-outcome t here (outcome sameRole t b) sized))
     where
       k : Walked s out
       k = walked s b out w

@@ -149,10 +149,10 @@ module _ (s u : List ℕ) (grown : Grown s u) where
       ap₂ (λ (l : List Entry) (r : Entry). record { left = l; right = r })
       (ext-getD (constant 0) (lineAt (tableOf u .lines) n .left) (lineAt (tableOf s .lines) n .left) (omega arith)
       (λ k l. entry-code (byteAt u 5) (byteAt u 8) (byteAt u 7) (byteAt s 5) (byteAt s 8) (byteAt s 7) (byteAt s (lineStart s n + 1 + k))
-        (getD (lineAt (tableOf u .lines) n .left) k (constant 0)) (getD (lineAt (tableOf s .lines) n .left) k (constant 0))
-        (subst (λ (x : ℕ). entryOf (byteAt u 5) (byteAt u 8) (byteAt u 7) x ≡ some (getD (lineAt (tableOf u .lines) n .left) k (constant 0)))
-        (line-byte (lineStart s n + 1 + k) (lineStart u n + 1 + k) (omega arith) (omega arith) (omega arith)) (there .line-entry n k (omega arith) (omega arith)))
-        (here .line-entry n k h (omega arith))))
+      (getD (lineAt (tableOf u .lines) n .left) k (constant 0)) (getD (lineAt (tableOf s .lines) n .left) k (constant 0))
+      (subst (λ (x : ℕ). entryOf (byteAt u 5) (byteAt u 8) (byteAt u 7) x ≡ some (getD (lineAt (tableOf u .lines) n .left) k (constant 0)))
+      (line-byte (lineStart s n + 1 + k) (lineStart u n + 1 + k) (omega arith) (omega arith) (omega arith)) (there .line-entry n k (omega arith) (omega arith)))
+      (here .line-entry n k h (omega arith))))
       (entry-code (byteAt u 5) (byteAt u 8) (byteAt u 7) (byteAt s 5) (byteAt s 8) (byteAt s 7) (byteAt s (lineStart s n + 1 + byteAt s (lineStart s n)))
       (lineAt (tableOf u .lines) n .right) (lineAt (tableOf s .lines) n .right)
       (subst (λ (x : ℕ). entryOf (byteAt u 5) (byteAt u 8) (byteAt u 7) x ≡ some (lineAt (tableOf u .lines) n .right))
@@ -174,7 +174,7 @@ module _ (s u : List ℕ) (grown : Grown s u) where
         roles = omega arith;
         variables = omega arith;
         rows = (drop (length (tableOf s .rows)) (tableOf u .rows), rows-begin);
-        lines = (drop (length (tableOf s .lines)) (tableOf u .lines), lines-begin)
+        lines = (drop (length (tableOf s .lines)) (tableOf u .lines), lines-begin);
       }
 
   pub grown-lines : SameLines s u → tableOf u .lines ≡ tableOf s .lines

@@ -1,6 +1,7 @@
 -- The solver's answer, as one definition: number, count, place and the output afterwards.
 --
 --   Answered             == a number, a count, a place and the output afterwards
+--   answered r out       == what the call handed back, with the output that it left
 --   refusedAs n p out    == a refusal: count 0, and the output stays
 --   outcomeAs o out      == what an outcome of the walk is answered by
 --   answer s b out       == the answer to the bytes s with the budget b and the output out
@@ -14,6 +15,7 @@ use Rattle.el.specs.Table.{Table}
 use Rattle.el.specs.Walk.{Outcome, solved, nothing, budget, outcome}
 use Rattle.table.specs.Reading.{Reading, refusal, readable, reading}
 use Rattle.output.specs.Written.{written}
+use Rattle.makrothel.specs.declared.SolveAnswer.{SolveAnswer}
 
 -- "The solver answers number, count and place."
 pub record Answered : Type 0 where
@@ -21,6 +23,9 @@ pub record Answered : Type 0 where
   pub count : ℕ
   pub place : ℕ
   pub output : List ℕ
+
+unfoldable pub answered : SolveAnswer → List ℕ → Answered
+answered r out = record { number = r .number; count = r .count; place = r .place; output = out }
 
 -- "under every other number all of the output stays"; a refusal has count 0
 abbrev pub refusedAs : ℕ → ℕ → List ℕ → Answered
@@ -35,9 +40,10 @@ outcomeAs (budget n) out = record { number = 9; count = n; place = 0; output = o
 -- "7 output shorter than 4v bytes, 0, 4v". "Then 6, then 7, then the walk."
 unfoldable pub tableAs : Table → ℕ → List ℕ → Answered
 tableAs t b out =
-    elim (ltb (length out) (4 * t .variables))
-    [ true ↦ refusedAs 7 (4 * t .variables) out
-    | false ↦ outcomeAs (outcome sameRole t b) out ]
+    elim (ltb (length out) (4 * t .variables)) [
+      | true ↦ refusedAs 7 (4 * t .variables) out
+      | false ↦ outcomeAs (outcome sameRole t b) out
+    ]
 
 abbrev pub readingAs : Reading → ℕ → List ℕ → Answered
 readingAs (refusal n p) b out = refusedAs n p out

@@ -2,8 +2,9 @@
 --
 --   read-unique == of the reader: number, place and the five counts
 --   line-unique == of the line call: the contents of the part
+--   solve-unique == of the solver: number, count, place and the output afterwards
 --   line-length == a line that is there has p + 2 bytes
-use mathlib.Core.Path.{_≡_, sym, ap, subst, _∙_}
+use mathlib.Core.Path.{_≡_, sym, ap, _∙_}
 use mathlib.Core.Bool.{Bool, true, false, _&&_, cond}
 use mathlib.Core.List.{List, []}
 use Prim.Native.Nat.{ℕ, _+_, _≤_, _<_}
@@ -16,13 +17,22 @@ use Rattle.table.specs.Reading.{byteAt, reading, isReadable}
 use Rattle.table.specs.Layout.{lineStart}
 use Rattle.table.specs.LayoutLaws.{layout}
 use Rattle.makrothel.specs.declared.ReadAnswer.{ReadAnswer}
+use Rattle.makrothel.specs.declared.SolveAnswer.{SolveAnswer}
 use Rattle.makrothel.specs.Answer.{readAnswer, linePart}
+use Rattle.makrothel.specs.Solve.{Answered, answered, answer}
 
 pub read-unique : (s : List ℕ) (a b : ReadAnswer) → a ≡ readAnswer (reading s) → b ≡ readAnswer (reading s) → a ≡ b
 read-unique s a b p q = p ∙ sym q
 
 pub line-unique : (s : List ℕ) (n : ℕ) (a b : List ℕ) → a ≡ linePart s n → b ≡ linePart s n → a ≡ b
 line-unique s n a b p q = p ∙ sym q
+
+pub solve-unique : (s : List ℕ) (b : ℕ) (out : List ℕ) (q r : SolveAnswer) (after later : List ℕ)
+    → answered q after ≡ answer s b out → answered r later ≡ answer s b out → (q ≡ r) × (after ≡ later)
+unfolding answered
+solve-unique s b out q r after later p e =
+    let same : answered q after ≡ answered r later = p ∙ sym e in
+    ((λ i. record { number = same i .number; count = same i .count; place = same i .place }), ap (λ (x : Answered). x .output) same)
 
 pub line-length : (s : List ℕ) (n : ℕ) → T (isReadable (reading s)) → n < byteAt s 9 → length (linePart s n) ≡ byteAt s (lineStart s n) + 2
 unfolding linePart

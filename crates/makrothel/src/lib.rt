@@ -1,8 +1,14 @@
 // The public calls.
 ghost use mathlib.Core.Path.{_≡_};
+ghost use Prim.Native.Nat.{_*_, _≤_};
+ghost use lib.ListN.{length};
 ghost use Rattle.table.specs.Reading.{reading};
+ghost use Rattle.walk.specs.Step.{outcomeOf};
 ghost use Rattle.makrothel.specs.Answer.{readAnswer, linePart};
+ghost use Rattle.makrothel.specs.Solve.{outcomeAs, answered, answer};
 use table::Verdict;
+use walk::End;
+use walk::Walked;
 
 // What the reader answers: 0 or the number of a refusal, its place, and the five counts, zeros when refused.
 pub struct ReadAnswer {
@@ -63,4 +69,68 @@ pub fn line<'a>(table: &'a [u8], n: u32) -> &'a [u8]
     let at = table::line_start(table, n as usize);
     let end = at + table::wide(table[at]) + 2;
     &table[at..end]
+}
+
+// What the solver answers: number, count and place.
+pub struct SolveAnswer {
+    pub number: u32,
+    pub count: u32,
+    pub place: usize,
+}
+
+// The answer to the end of a walk; only a walk that found an assignment writes.
+fn finish(walked: Walked, out: &mut [u8]) -> SolveAnswer
+    requires { ⌜ (walked .sets .chosen ≤ 12) × (4 * walked .sets .chosen ≤ length (now out)) ⌝ }
+    ensures { λ r. ⌜ answered r (now (out .exit)) ≡ outcomeAs (outcomeOf walked) (now (out .entry)) ⌝ }
+{
+    let count = walked.count;
+    let end = walked.end;
+    match end {
+        End::Found => {
+            let sets = walked.sets;
+            let set = sets.set;
+            let n = sets.chosen;
+            output::put_all(out, set, n);
+            SolveAnswer {
+                number: 0,
+                count: count,
+                place: 0,
+            }
+        }
+        End::Nothing => SolveAnswer {
+            number: 8,
+            count: count,
+            place: 0,
+        },
+        End::Spent => SolveAnswer {
+            number: 9,
+            count: count,
+            place: 0,
+        },
+    }
+}
+
+// Solves a table: every byte string, every budget and every output length is answered.
+pub fn solve(table: &[u8], budget: u32, out: &mut [u8]) -> SolveAnswer
+    ensures { λ r. ⌜ answered r (now (out .exit)) ≡ answer (now (table .entry)) budget (now (out .entry)) ⌝ }
+{
+    match table::check(table) {
+        Verdict::Refused(number, place) => {
+            return SolveAnswer {
+                number: number,
+                count: 0,
+                place: place,
+            };
+        }
+        Verdict::Readable => {}
+    }
+    let needed = 4 * table::wide(table[table::VARIABLES]);
+    if out.len() < needed {
+        return SolveAnswer {
+            number: 7,
+            count: 0,
+            place: needed,
+        };
+    }
+    finish(walk::walk(table, budget), out)
 }

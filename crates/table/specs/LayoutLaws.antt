@@ -12,13 +12,14 @@
 --   filler-declared, entry-declared, every-at == what was read is declared
 --   layout                       == a readable table's bytes lie as its table says
 --   readable-header              == a reading's header and table are headerOf and tableOf
+--   longest                      == "The longest readable table has 698 bytes."
 use mathlib.Core.Path.{_≡_, refl, sym, ap, subst, _∙_}
-use mathlib.Core.Bool.{Bool, true, false, _&&_, not, cond}
+use mathlib.Core.Bool.{Bool, true, false, not, cond}
 use mathlib.Core.List.{List, [], _∷_}
 use mathlib.Core.Option.{Option, none, some}
 use Prim.Native.Nat.{ℕ, zero, suc, _+_, _*_, _≤_, _<_}
 use native.Mathlib.Omega.{arith}
-use lib.Dec.{T, eqb, leb, ltb, lt→ltb}
+use lib.Dec.{T, leb, ltb, lt→ltb}
 use lib.ListN.{length, getD}
 use mir.Facts.{yes-and}
 use borrow.Author.Tests.{ltb-true, ltb-false, leb-false}
@@ -27,7 +28,7 @@ use Rattle.el.specs.Table.{Filler, topF, constantF, variableF, Entry, constant,
 use Rattle.table.specs.declared.Kind.{Kind}
 use Rattle.table.specs.declared.Kind.the-variants.{Top, Constant, Restriction, Variable, Other}
 use Rattle.table.specs.Code.{kindOf, within, fillerOfKind, fillerOf, entryOfKind, entryOf}
-use Rattle.table.specs.Reading.{Read, refused, got, refuseIf, andThen, orRefused, byteAt, missing, Header, headerOf, marked, versionOne, readHeader, readRow, readRows, readEntry, readEntries, readLine, readLines, readBody, Reading, refusal, readable, whole, fromHeader, reading, theTable, tableOf, isReadable, maxAtoms, maxRoles, maxVariables, maxLines, maxLeft}
+use Rattle.table.specs.Reading.{Read, refused, got, refuseIf, andThen, orRefused, byteAt, missing, Header, headerOf, marked, versionOne, readHeader, readRow, readRows, readEntry, readEntries, readLine, readLines, readBody, readable, whole, fromHeader, reading, theTable, tableOf, isReadable, maxAtoms, maxRoles, maxVariables, maxLines, maxLeft}
 use Rattle.table.specs.Layout.{lineAt, lineStart, Layout}
 
 pub refused-got : {A : Type 0} (n p : ℕ) (a : A) (end : ℕ) → refused n p ≡ got a end → ⊥
@@ -294,7 +295,7 @@ module _ (s : List ℕ) (h : Header) where
 
 ------------------------------------------------------------------ what was read is declared
 
-within-some : {A : Type 0} (k n : ℕ) (a x : A) → within k n a ≡ some x → (k < n) × (a ≡ x)
+pub within-some : {A : Type 0} (k n : ℕ) (a x : A) → within k n a ≡ some x → (k < n) × (a ≡ x)
 unfolding within
 within-some k n a x q = go (ltb k n) refl q
   where
@@ -440,3 +441,20 @@ readable-header s h t q = (go (readHeader s) refl q, sym (ap theTable q))
     go : (x : Read Header) → readHeader s ≡ x → fromHeader s x ≡ readable h t → h ≡ headerOf s
     go (refused n p) e q = let z : _≡_ {A = ℕ} 0 1 = cc in absurd (let y : ⊥ = omega arith in y)
     go (got k at) e q = sym (inner k (readBody s k) q) ∙ header-read s k at e .same
+
+starts-within : (s : List ℕ) (t : Table) → Layout s t → (n : ℕ) → n ≤ byteAt s 9 → lineStart s n ≤ 10 + 2 * byteAt s 8 + 10 * n
+unfolding lineStart
+starts-within s t l zero w = omega arith
+starts-within s t l (suc n) w =
+    let before : lineStart s n ≤ 10 + 2 * byteAt s 8 + 10 * n = starts-within s t l n (omega arith) in
+    let few : byteAt s (lineStart s n) ≤ 8 = l .line-few n (omega arith) in
+    omega arith
+
+pub longest : (s : List ℕ) → T (isReadable (reading s)) → length s ≤ 698
+longest s ok =
+    let l = layout s ok in
+    let end : lineStart s (byteAt s 9) ≡ length s = l .line-end in
+    let most = starts-within s (tableOf s) l (byteAt s 9) (omega arith) in
+    let lines : byteAt s 9 ≤ 64 = l .few-lines in
+    let atoms : byteAt s 5 + byteAt s 8 ≤ 24 = l .few-atoms in
+    omega arith

@@ -5,7 +5,6 @@
 --   verdictOf r == the verdict on a whole table: the refusal with its number and place, or readable
 use mathlib.Core.Bool.{Bool, true, false}
 use mathlib.Core.Option.{Option, none, some}
-use Prim.Native.Nat.{ℕ}
 use Rattle.table.specs.declared.Step.{Step}
 use Rattle.table.specs.declared.Step.the-variants.{Next, Stop}
 use Rattle.table.specs.declared.Verdict.{Verdict}

@@ -5,18 +5,22 @@
 --   next-sibling        == where it ends at a sibling
 --   next-none           == where no node is left
 --   looked-dead, looked-solved, looked-down == what examining a node finds
---   turn-solved, turn-on, turn-over, turn-spent == a turn of the walk's loop
+--   given-variables, given-node == what the table's counts give
+--   turn-solved, turn-on, turn-over == a node of the list, gone along
+--   walked-start, walked-found, walked-over, walked-on, walked-spent == a turn of the walk's loop
 use mathlib.Core.Path.{_≡_, refl, sym, ap, ap₂, subst, _∙_}
 use mathlib.Core.Bool.{Bool, true, false, _&&_, not}
 use mathlib.Core.List.{List, [], _∷_}
-use Prim.Native.Nat.{ℕ, zero, suc, _+_, _-_, _^_, _≤_, _<_}
+use Prim.Native.Nat.{ℕ, zero, suc, _+_, _-_, _*_, _%_, _^_, _≤_, _<_}
+use native.Mathlib.Nat.{one-mul, mod-eq-of-lt, sub-zero}
 use native.Mathlib.Omega.{arith}
 use native.Mathlib.Decide.{ℕ-discrete}
-use lib.ListN.{length, getD, take, set}
+use lib.ListN.{length, getD, take, set, replicate}
 use lib.Seq.{getD-set-same, getD-set-other, take-set-le}
 use Rattle.el.specs.Description.{sameRole}
 use Rattle.el.specs.Table.{Table, atoms}
-use lib.Dec.{eqb}
+use lib.Dec.{T, eqb}
+use lib.Pow.{pow-lt, pow-mono}
 use borrow.Author.Tests.{eq-eqb, ne-eqb}
 use lib.ListN.{length-take}
 use lib.Seq.{length-take-le}
@@ -24,10 +28,13 @@ use Rattle.el.specs.Walk.{Node, dead, full, ends, Outcome, solved, nothing, bud
 use Rattle.el.specs.ScanLaws.{scan, scan-end, scan-spent, scan-solved, scan-on, scan-means}
 use Rattle.el.specs.StepLaws.{remaining, afterwards, remaining-start, remaining-dead, remaining-full, remaining-down, remaining-first, afterwards-hit, afterwards-miss, afterwards-end}
 use Rattle.node.specs.declared.Sets.{Sets}
-use Rattle.node.specs.Node.{nodeOf}
+use Rattle.table.specs.Reading.{byteAt, reading, isReadable, tableOf}
+use Rattle.table.specs.Layout.{Layout}
+use Rattle.table.specs.LayoutLaws.{layout}
+use Rattle.node.specs.Node.{nodeOf, Clean, NodeGiven}
 use Rattle.walk.specs.declared.Going.{Going}
 use Rattle.walk.specs.declared.Going.the-variants.{Solved, On, Over}
-use Rattle.walk.specs.Step.{SoundAt, rest, after, NextAs, LookedAs}
+use Rattle.walk.specs.Step.{SoundAt, rest, after, NextAs, LookedAs, Given}
 
 unfoldable pub Goes : Table → List ℕ → ℕ → List ℕ → ℕ → Type 0
 Goes t a₀ k₀ a k = (afterwards sameRole t a₀ k₀ ≡ afterwards sameRole t a k) × (SoundAt t a₀ k₀ → SoundAt t a k)
@@ -138,22 +145,103 @@ module _ (t : Table) (sets : Sets) (fits : sets .chosen ≤ length (sets .set)) 
       down-sound = unfold SoundAt in (omega arith, clean, above)
 
 ----------------------------------------------------------------------------------------------------
+-- The table's counts
+
+module _ (s : List ℕ) (c e v m last : ℕ) (given : Given s c e v m last) where
+  pub given-variables : (tableOf s .variables ≡ v) × (v ≤ 12)
+  given-variables =
+      let l = layout s (given .readable) in let a : tableOf s .variables ≡ byteAt s 7 = l .variables in let b : v ≡ byteAt s 7 = given .variables in
+      let f : byteAt s 7 ≤ 12 = l .few-variables in (omega arith, omega arith)
+
+  pub given-some : 0 < 2 ^ atoms (tableOf s)
+  given-some = let w : 2 ^ atoms (tableOf s) ≡ last + 1 = given .width in omega arith
+
+  pub given-chosen : (a : List ℕ) (k : ℕ) → SoundAt (tableOf s) a k → k ≤ v
+  unfolding SoundAt
+  given-chosen a k sound = let h : k ≤ tableOf s .variables = sound .0 in let q = given-variables in omega arith
+
+  pub given-node : (sets : Sets) → SoundAt (tableOf s) (sets .set) (sets .chosen) → NodeGiven s c e v m sets
+  given-node sets sound =
+      record {
+        readable = given .readable; constants = given .constants; restrictions = given .restrictions; variables = given .variables; lines = given .lines;
+        chosen = given-chosen (sets .set) (sets .chosen) sound; clean = unfold SoundAt Clean in sound .1
+      }
+
+-- the counts, read off the table's bytes
+pub given-table : (s : List ℕ) (c e v m last : ℕ) → T (isReadable (reading s)) → c ≡ byteAt s 5 → v ≡ byteAt s 7 → e ≡ byteAt s 8 → m ≡ byteAt s 9 → last + 1 ≡ 2 ^ (c + e) → Given s c e v m last
+given-table s c e v m last ok hc hv he hm hl =
+    record {
+      readable = ok; constants = hc; restrictions = he; variables = hv; lines = hm;
+      width = ap (λ (n : ℕ). 2 ^ n) count ∙ sym hl;
+      narrow = let h : 2 ^ (c + e) ≤ 2 ^ 24 = pow-mono few in omega arith
+    }
+  where
+    few : c + e ≤ 24
+    few = let f : byteAt s 5 + byteAt s 8 ≤ 24 = layout s ok .few-atoms in omega arith
+
+    count : atoms (tableOf s) ≡ c + e
+    count = unfold atoms in (let a = layout s ok .constants in let b = layout s ok .rows in omega arith)
+
+-- the root
+pub zeros : (n x : ℕ) → _≡_ {A = ℕ} (getD (replicate n 0) x 0) 0
+zeros zero x = refl
+zeros (suc n) zero = refl
+zeros (suc n) (suc x) = zeros n x
+
+pub sound-root : (t : Table) (a : List ℕ) → ((x : ℕ) → getD a x 0 ≡ 0) → SoundAt t a 0
+unfolding SoundAt
+sound-root t a f = (omega arith, (λ x _. f x), λ j h. absurd (let z : ⊥ = omega arith in z))
+
+----------------------------------------------------------------------------------------------------
 -- A turn of the loop
 
 module _ (p : Node → Bool) (b n : ℕ) (more : n < b) where
   less : b - n ≡ suc (b - (n + 1))
   less = omega arith
 
-  pub turn-solved : (l m : List Node) (s : Node) → l ≡ s ∷ m → p s ≡ true → scan p (b - n) n l ≡ solved (n + 1) s
+  turn-solved : (l m : List Node) (s : Node) → l ≡ s ∷ m → p s ≡ true → scan p (b - n) n l ≡ solved (n + 1) s
   turn-solved l m s e h = ap₂ (λ (k : ℕ) (z : List Node). scan p k n z) less e ∙ scan-solved p (b - (n + 1)) n s m h
 
-  pub turn-on : (l m : List Node) (s : Node) → l ≡ s ∷ m → p s ≡ false → scan p (b - n) n l ≡ scan p (b - (n + 1)) (n + 1) m
+  turn-on : (l m : List Node) (s : Node) → l ≡ s ∷ m → p s ≡ false → scan p (b - n) n l ≡ scan p (b - (n + 1)) (n + 1) m
   turn-on l m s e h = ap₂ (λ (k : ℕ) (z : List Node). scan p k n z) less e ∙ scan-on p (b - (n + 1)) n s m h
 
-  pub turn-over : (l : List Node) (s : Node) → l ≡ s ∷ [] → p s ≡ false → scan p (b - n) n l ≡ nothing (n + 1)
+  turn-over : (l : List Node) (s : Node) → l ≡ s ∷ [] → p s ≡ false → scan p (b - n) n l ≡ nothing (n + 1)
   turn-over l s e h = turn-on l [] s e h ∙ scan-end p (b - (n + 1)) (n + 1) [] refl
 
-pub turn-spent : (p : Node → Bool) (b n : ℕ) (t : Table) (a : List ℕ) (k : ℕ) → b ≡ n → scan p (b - n) n (remaining sameRole t a k) ≡ budget n
-turn-spent p b n t a k e =
-    let f = remaining-first sameRole t a k in
-    ap (scan p (b - n) n) (f .1) ∙ scan-spent p (b - n) n (take k a) (f .0) (omega arith)
+-- the outcome, after the step that examined the node of `sets`
+module _ (t : Table) (b n : ℕ) (sets : Sets) (inv : outcome sameRole t b ≡ scan (ends sameRole t) (b - n) n (rest t sets)) where
+  first : (l : List Node) × (rest t sets ≡ nodeOf sets ∷ l)
+  unfolding rest nodeOf
+  first = remaining-first sameRole t (sets .set) (sets .chosen)
+
+  pub walked-spent : b ≡ n → outcome sameRole t b ≡ budget n
+  walked-spent e = inv ∙ ap (scan (ends sameRole t) (b - n) n) (first .1) ∙ scan-spent (ends sameRole t) (b - n) n (nodeOf sets) (first .0) (omega arith)
+
+  module _ (more : n < b) (g : Going) (to : Sets) (looked : LookedAs t sets g to) where
+    pub walked-found : g ≡ Solved → (outcome sameRole t b ≡ solved (n + 1) (nodeOf to)) × (to ≡ sets)
+    walked-found e =
+        let k : LookedAs t sets Solved to = subst (λ (x : Going). LookedAs t sets x to) e looked in
+        (inv ∙ turn-solved (ends sameRole t) b n more (rest t sets) (first .0) (nodeOf sets) (first .1) (k .0) ∙ ap (λ (x : Sets). solved (n + 1) (nodeOf x)) (sym (k .1)), k .1)
+
+    pub walked-over : g ≡ Over → outcome sameRole t b ≡ nothing (n + 1)
+    walked-over e =
+        let k : LookedAs t sets Over to = subst (λ (x : Going). LookedAs t sets x to) e looked in
+        inv ∙ turn-over (ends sameRole t) b n more (rest t sets) (nodeOf sets) (k .1) (k .0)
+
+    pub walked-on : g ≡ On → SoundAt t (to .set) (to .chosen) × (outcome sameRole t b ≡ scan (ends sameRole t) (b - (n + 1)) (n + 1) (rest t to))
+    walked-on e =
+        let k : LookedAs t sets On to = subst (λ (x : Going). LookedAs t sets x to) e looked in
+        (k .2, inv ∙ turn-on (ends sameRole t) b n more (rest t sets) (rest t to) (nodeOf sets) (k .1) (k .0))
+
+-- the start, at the root
+pub walked-start : (t : Table) (b : ℕ) (sets : Sets) → sets .chosen ≡ 0 → outcome sameRole t b ≡ scan (ends sameRole t) (b - 0) 0 (rest t sets)
+unfolding rest
+walked-start t b sets e =
+    scan-means sameRole t b
+    ∙ ap₂ (λ (k : ℕ) (l : List Node). scan (ends sameRole t) k 0 l) (sym (sub-zero b)) (remaining-start sameRole t (sets .set) ∙ ap (remaining sameRole t (sets .set)) (sym e))
+
+----------------------------------------------------------------------------------------------------
+-- The last set number
+
+pub power-fits : (n : ℕ) → n < 32 → 1 * 2 ^ n % 4294967296 ≡ 2 ^ n
+power-fits n h = ap (λ (k : ℕ). k % 4294967296) (one-mul (2 ^ n)) ∙ mod-eq-of-lt (pow-lt h)

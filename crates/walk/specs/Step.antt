@@ -6,16 +6,19 @@
 --   Sound t sets     == the same of the node of `sets`
 --   Next t sets step == the step leads to what comes after the node
 --   Looked t sets step == the step examines the node and leads on
+--   Given s c e v m last == s is a readable table with these counts, and `last` is its last set number
 --   outcomeOf walked == the outcome that the walk's last state says
 use mathlib.Core.Path.{_≡_}
 use mathlib.Core.Bool.{Bool, true, false}
 use mathlib.Core.List.{List, [], _∷_}
-use Prim.Native.Nat.{ℕ, _≤_, _<_}
+use Prim.Native.Nat.{ℕ, _+_, _^_, _≤_, _<_}
+use lib.Dec.{T}
 use lib.ListN.{getD, take}
 use Rattle.el.specs.Description.{sameRole}
-use Rattle.el.specs.Table.{Table}
+use Rattle.el.specs.Table.{Table, atoms}
 use Rattle.el.specs.Walk.{Node, dead, ends, Outcome, solved, nothing, budget}
 use Rattle.el.specs.StepLaws.{remaining, afterwards}
+use Rattle.table.specs.Reading.{byteAt, reading, isReadable, tableOf}
 use Rattle.node.specs.declared.Sets.{Sets}
 use Rattle.node.specs.Node.{nodeOf}
 use Rattle.walk.specs.declared.Going.{Going}
@@ -55,6 +58,15 @@ LookedAs t sets Over to = (ends sameRole t (nodeOf sets) ≡ false) × (rest t s
 
 unfoldable pub Looked : Table → Sets → Step → Type 0
 Looked t sets step = LookedAs t sets (step .going) (step .sets)
+
+pub record Given (s : List ℕ) (c e v m last : ℕ) : Type 0 where
+  pub readable : T (isReadable (reading s))
+  pub constants : c ≡ byteAt s 5
+  pub restrictions : e ≡ byteAt s 8
+  pub variables : v ≡ byteAt s 7
+  pub lines : m ≡ byteAt s 9
+  pub width : 2 ^ atoms (tableOf s) ≡ last + 1
+  pub narrow : last < 2 ^ 24
 
 abbrev pub outcomeAs : End → ℕ → Node → Outcome
 outcomeAs Found n s = solved n s

@@ -1,9 +1,13 @@
 // The walk: one step from node to node, and the loop that counts them.
 ghost use mathlib.Core.Path.{_≡_};
 ghost use Prim.Native.Nat.{_+_, _≤_, _<_, _^_};
+ghost use lib.Dec.{T};
 ghost use lib.ListN.{set};
+ghost use Rattle.el.specs.Description.{sameRole};
 ghost use Rattle.el.specs.Table.{Table, atoms};
-ghost use Rattle.walk.specs.Step.{Next};
+ghost use Rattle.el.specs.Walk.{outcome};
+ghost use Rattle.table.specs.Reading.{byteAt, reading, isReadable, tableOf};
+ghost use Rattle.walk.specs.Step.{Sound, Next, Looked, Given, outcomeOf};
 use node::Sets;
 
 // Where a step leads: to the end of the walk, on to a node, or nowhere because no node is left.
@@ -65,4 +69,96 @@ fn next_node(sets: Sets, last: u32) -> Step
         going: Going::Over,
         sets: Sets { set, chosen: 0 },
     }
+}
+
+// One node examined: dead, it is left; live and full, it ends the walk; live, it is followed by its first child.
+fn look(table: &[u8], c: usize, e: usize, v: usize, m: usize, sets: Sets, last: u32) -> Step
+    requires { ⌜ Given (now table) c e v m last × Sound (tableOf (now table)) sets ⌝ }
+    ensures { λ r. ⌜ Looked (tableOf (now (table .entry))) sets r ⌝ }
+{
+    if node::is_dead(table, c, e, v, m, sets) {
+        return next_node(sets, last);
+    }
+    let k = sets.chosen;
+    if k == v {
+        return Step {
+            going: Going::Solved,
+            sets,
+        };
+    }
+    Step {
+        going: Going::On,
+        sets: child(sets),
+    }
+}
+
+// The walk from the root, with the table's counts and its last set number at hand.
+fn walk_from_root(
+    table: &[u8],
+    c: usize,
+    e: usize,
+    v: usize,
+    m: usize,
+    last: u32,
+    budget: u32,
+) -> Walked
+    requires { ⌜ Given (now table) c e v m last ⌝ }
+    ensures { λ r. ⌜ (outcomeOf r ≡ outcome sameRole (tableOf (now (table .entry))) budget) × (r .sets .chosen ≤ v) ⌝ }
+{
+    let mut sets = Sets {
+        set: [0u32; 12],
+        chosen: 0,
+    };
+    let mut count: u32 = 0;
+    while count < budget {
+        count += 1;
+        let step = look(table, c, e, v, m, sets, last);
+        let next = step.sets;
+        let going = step.going;
+        match going {
+            Going::Solved => {
+                return Walked {
+                    end: End::Found,
+                    count,
+                    sets: next,
+                };
+            }
+            Going::Over => {
+                return Walked {
+                    end: End::Nothing,
+                    count,
+                    sets,
+                };
+            }
+            Going::On => {
+                sets = next;
+            }
+        }
+    }
+    Walked {
+        end: End::Spent,
+        count,
+        sets,
+    }
+}
+
+// The last set number over n atoms.
+fn last_set(n: usize) -> u32
+    requires { ⌜ n ≤ 24 ⌝ }
+    ensures { λ r. ⌜ r + 1 ≡ 2 ^ n ⌝ }
+{
+    (1u32 << n) - 1
+}
+
+// The walk over a readable table with a budget.
+pub fn walk(table: &[u8], budget: u32) -> Walked
+    requires { ⌜ T (isReadable (reading (now table))) ⌝ }
+    ensures { λ r. ⌜ (outcomeOf r ≡ outcome sameRole (tableOf (now (table .entry))) budget) × (r .sets .chosen ≤ byteAt (now (table .entry)) 7) ⌝ }
+{
+    let c = table::wide(table[table::CONSTANTS]);
+    let v = table::wide(table[table::VARIABLES]);
+    let e = table::wide(table[table::RESTRICTIONS]);
+    let m = table::wide(table[table::LINES]);
+    let last = last_set(c + e);
+    walk_from_root(table, c, e, v, m, last, budget)
 }

@@ -43,7 +43,7 @@ part-result-end-2 : tie.Need-part-result-end-2
 part-result-end-2 c = search needs
 
 returns-2 : tie.Need-returns-2
-returns-2 c = line-over _ (sym (c .before .before .before .before .before .before .check .ensures) ∙ c .before .before .before .before .enum-told2 .given .1) _ _ (c .before .before .count .ensures) (c .before .if1 .taken)
+returns-2 c = line-over _ (sym (c .before .before .before .before .before .before .check .ensures) ∙ c .before .before .before .before .enum-told2 .given .1) _ _ (c .before .before .count .ensures) (omega arith)
 
 line-start-requires : tie.Need-line-start-requires
 line-start-requires c κs = (readable-is _ (sym (c .before .before .before .before .before .check .ensures) ∙ c .before .before .before .enum-told2 .given .1), omega arith)

@@ -33,11 +33,11 @@ read-entry-requires c κs = search needs
 enum-known-number : tie.Need-enum-known-number
 enum-known-number c = search needs
 
-returns-3 : tie.Need-returns-3
-returns-3 c = c .read-entry .ensures ∙ line-right _ _ _ _ _ (sym (c .before .before .before .before .read-entries .ensures) ∙ c .before .before .next .given .1) (omega arith) (omega arith) (omega arith)
-
 returns-4 : tie.Need-returns-4
 returns-4 c = line-stop _ _ _ _ _ _ (sym (c .before .before .before .read-entries .ensures) ∙ c .before .number .given .1) (omega arith) (omega arith) (omega arith)
+
+returns-3 : tie.Need-returns-3
+returns-3 c = c .read-entry .ensures ∙ line-right _ _ _ _ _ (sym (c .before .before .before .before .read-entries .ensures) ∙ c .before .before .next .given .1) (omega arith) (omega arith) (omega arith)
 
 pub read-line-spec : {M : Type 1} → statement M
 read-line-spec =

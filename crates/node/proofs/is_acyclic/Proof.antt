@@ -1,0 +1,65 @@
+-- `node::is_acyclic` meets its contract. The invariant: no variable below x leads to itself; the measure is what is left of n.
+use mathlib.Core.Path.{_≡_, sym}
+use mathlib.Core.Bool.{true}
+use Prim.Native.Nat.{_-_, _≤_}
+use native.Mathlib.Omega.{arith}
+use borrow.Author.Needs.{needs}
+use lib.ListN.{length}
+use Rattle.node.specs.Node.{noCycle}
+use Rattle.node.specs.MaskLaws.{bit-is, bit-is-not}
+use Rattle.node.specs.SquareLaws.{no-cycle-start, no-cycle-more, no-cycle-whole, no-cycle-not}
+use Rattle.node.proofs.is_acyclic.Statement.{statement}
+use Rattle.node.proofs.is_acyclic.Tie as tie
+
+abbrev Inv-loop : tie.InvT-loop
+Inv-loop n row x₀ x = (x ≤ n) × (length row ≡ 12) × (noCycle row x ≡ true)
+
+abbrev μ-loop : tie.MeasureT-loop
+μ-loop n row x₀ x = n - x
+
+loop-holds : tie.Need-loop-holds Inv-loop μ-loop
+loop-holds c = (omega arith, search needs, no-cycle-start _)
+
+mul-if1 : tie.Need-mul-if1 Inv-loop μ-loop
+mul-if1 c = search needs
+
+array-read-if1 : tie.Need-array-read-if1 Inv-loop μ-loop
+array-read-if1 c = search needs
+
+cast-if1 : tie.Need-cast-if1 Inv-loop μ-loop
+cast-if1 c = search needs
+
+shr-if1 : tie.Need-shr-if1 Inv-loop μ-loop
+shr-if1 c = search needs
+
+returns : tie.Need-returns Inv-loop μ-loop
+returns c = sym (no-cycle-not _ _ _ (omega arith) (bit-is _ _ (c .if1 .taken)))
+
+add-x : tie.Need-add-x Inv-loop μ-loop
+add-x c = search needs
+
+loop-less : tie.Need-loop-less Inv-loop μ-loop
+loop-less c = search needs
+
+loop-again : tie.Need-loop-again Inv-loop μ-loop
+loop-again c = (omega arith, search needs, no-cycle-more _ _ (c .before .before .loop .inv .2) (bit-is-not _ _ (c .if1 .left)))
+
+returns-2 : tie.Need-returns-2 Inv-loop μ-loop
+returns-2 c = sym (no-cycle-whole _ _ _ (c .before .loop .inv .0) (c .loop-test .left) (c .before .loop .inv .2))
+
+pub is-acyclic-spec : {M : Type 1} → statement M
+is-acyclic-spec =
+    tie.close
+    (tie.spec
+    Inv-loop
+    μ-loop
+    loop-holds
+    mul-if1
+    array-read-if1
+    cast-if1
+    shr-if1
+    returns
+    add-x
+    loop-less
+    loop-again
+    returns-2)

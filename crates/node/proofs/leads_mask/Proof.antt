@@ -1,0 +1,77 @@
+-- `node::leads_mask` meets its contract. The invariant: the mask has the variables below x that lead to z; the measure is what is left of n.
+use mathlib.Core.Path.{_≡_, ap, _∙_}
+use mathlib.Core.Logic.{⊎-elim}
+use Prim.Native.Nat.{_-_, _≤_}
+use native.Mathlib.Omega.{arith}
+use borrow.Author.Needs.{needs}
+use lib.ListN.{length}
+use Rattle.el.specs.Test.{bit}
+use Rattle.node.specs.ReadyLaws.{leads-start, leads-more, leads-skip, leads-whole}
+use Rattle.node.specs.Node.{Masks, leadsBy}
+use Rattle.node.specs.MaskLaws.{bit-is, bit-is-not}
+use Rattle.node.proofs.leads_mask.Statement.{statement}
+use Rattle.node.proofs.leads_mask.Tie as tie
+
+abbrev Inv-loop : tie.InvT-loop
+Inv-loop n z row mask₀ x₀ mask x = (x ≤ n) × (length row ≡ 12) × Masks (leadsBy row z x) mask
+
+abbrev μ-loop : tie.MeasureT-loop
+μ-loop n z row mask₀ x₀ mask x = n - x
+
+loop-holds : tie.Need-loop-holds Inv-loop μ-loop
+loop-holds c = (omega arith, search needs, leads-start _ _)
+
+mul-if1 : tie.Need-mul-if1 Inv-loop μ-loop
+mul-if1 c = search needs
+
+array-read-if1 : tie.Need-array-read-if1 Inv-loop μ-loop
+array-read-if1 c = search needs
+
+cast-if1 : tie.Need-cast-if1 Inv-loop μ-loop
+cast-if1 c = search needs
+
+shr-if1 : tie.Need-shr-if1 Inv-loop μ-loop
+shr-if1 c = search needs
+
+cast-mask : tie.Need-cast-mask Inv-loop μ-loop
+cast-mask c = search needs
+
+shl-mask : tie.Need-shl-mask Inv-loop μ-loop
+shl-mask c = search needs
+
+add-x : tie.Need-add-x Inv-loop μ-loop
+add-x c = search needs
+
+loop-less : tie.Need-loop-less Inv-loop μ-loop
+loop-less c = search needs
+
+loop-again : tie.Need-loop-again Inv-loop μ-loop
+loop-again c = (
+  omega arith,
+  search needs,
+  λ y. ⊎-elim
+      (λ w. ap (bit y) (w .1) ∙ leads-more _ _ _ _ (c .before .before .loop .inv .2) (omega arith) (bit-is _ _ (w .0 .taken)) y)
+      (λ w. ap (bit y) (w .1) ∙ leads-skip _ _ _ _ (c .before .before .loop .inv .2) (bit-is-not _ _ (w .0 .left)) y)
+      (c .if1 .came),
+)
+
+returns : tie.Need-returns Inv-loop μ-loop
+returns c = leads-whole _ _ _ _ _ (c .before .loop .inv .0) (c .loop-test .left) (c .before .loop .inv .2)
+
+pub leads-mask-spec : {M : Type 1} → statement M
+leads-mask-spec =
+    tie.close
+    (tie.spec
+    Inv-loop
+    μ-loop
+    loop-holds
+    mul-if1
+    array-read-if1
+    cast-if1
+    shr-if1
+    cast-mask
+    shl-mask
+    add-x
+    loop-less
+    loop-again
+    returns)

@@ -1,0 +1,22 @@
+-- `node::line_fails` meets its contract. What carries it: the masks say whether the line is ready, `order::line_holds` whether it is true.
+use mathlib.Core.Path.{sym}
+use borrow.Author.Needs.{needs}
+use Rattle.node.specs.DeadLaws.{test-not, test-given, test-ready}
+use Rattle.node.proofs.line_fails.Statement.{statement}
+use Rattle.node.proofs.line_fails.Tie as tie
+
+returns : tie.Need-returns
+returns c = sym (test-not _ _ _ _ _ _ (c .before .before .args .sets) _ _ (c .before .before .pre) (c .if1 .taken))
+
+slice-aggregate-line-holds : tie.Need-slice-aggregate-line-holds
+slice-aggregate-line-holds c = search needs
+
+line-holds-requires : tie.Need-line-holds-requires
+line-holds-requires c κs = test-given _ _ _ _ _ _ (c .before .before .before .before .args .sets) _ _ (c .before .before .before .before .pre) (search needs)
+
+returns-2 : tie.Need-returns-2
+returns-2 c = test-ready _ _ _ _ _ _ (c .before .before .before .before .before .args .sets) _ _ (c .before .before .before .before .before .pre) _ (c .before .before .before .if1 .left) (c .line-holds .ensures)
+
+pub line-fails-spec : {M : Type 1} → statement M
+line-fails-spec =
+    tie.close (tie.spec returns slice-aggregate-line-holds line-holds-requires returns-2)

@@ -1,0 +1,88 @@
+-- `node::line_mask` meets its contract. The invariant: the mask has the variables of the first i left entries (`leftTo`); the measure is what is left of p.
+use Prim.Native.Nat.{_-_, _≤_}
+use native.Mathlib.Omega.{arith}
+use borrow.Author.Needs.{needs}
+use Rattle.table.specs.Layout.{lineAt}
+use Rattle.table.specs.Reading.{tableOf}
+use Rattle.node.specs.LineLaws.{line-lies, line-start}
+use Rattle.node.specs.ReadyLaws.{left-start, left-more, line-whole}
+use Rattle.node.specs.Node.{Masks, leftTo}
+use Rattle.node.proofs.line_mask.Statement.{statement}
+use Rattle.node.proofs.line_mask.Tie as tie
+
+abbrev Inv-loop : tie.InvT-loop
+Inv-loop table n at p mask₀ i₀ mask i = (i ≤ p) × Masks (leftTo (tableOf table .rows) (lineAt (tableOf table .lines) n) i) mask
+
+abbrev μ-loop : tie.MeasureT-loop
+μ-loop table n at p mask₀ i₀ mask i = p - i
+
+shared-slice-read-wide : tie.Need-shared-slice-read-wide Inv-loop μ-loop
+shared-slice-read-wide c = line-start _ _ _ _ (c .before .before .pre .0) (c .before .before .pre .1 .0) (c .before .before .pre .1 .1)
+
+wide-requires : tie.Need-wide-requires Inv-loop μ-loop
+wide-requires c κs = search needs
+
+loop-holds : tie.Need-loop-holds Inv-loop μ-loop
+loop-holds c = (omega arith, left-start _ _)
+
+add-entry-mask : tie.Need-add-entry-mask Inv-loop μ-loop
+add-entry-mask c = let l = line-lies _ _ _ _ _ (c .before .before .before .before .before .pre .0) (c .before .before .before .before .before .pre .1 .0) (c .before .before .before .before .before .pre .1 .1) (c .before .before .wide .ensures) in omega arith
+
+add-entry-mask-2 : tie.Need-add-entry-mask-2 Inv-loop μ-loop
+add-entry-mask-2 c = let l = line-lies _ _ _ _ _ (c .before .before .before .before .before .pre .0) (c .before .before .before .before .before .pre .1 .0) (c .before .before .before .before .before .pre .1 .1) (c .before .before .wide .ensures) in omega arith
+
+shared-slice-read-entry-mask : tie.Need-shared-slice-read-entry-mask Inv-loop μ-loop
+shared-slice-read-entry-mask c = let l = line-lies _ _ _ _ _ (c .before .before .before .before .before .before .pre .0) (c .before .before .before .before .before .before .pre .1 .0) (c .before .before .before .before .before .before .pre .1 .1) (c .before .before .before .wide .ensures) in omega arith
+
+entry-mask-requires : tie.Need-entry-mask-requires Inv-loop μ-loop
+entry-mask-requires c κs = (c .before .before .before .before .before .before .pre .0, (_, (line-lies _ _ _ _ _ (c .before .before .before .before .before .before .pre .0) (c .before .before .before .before .before .before .pre .1 .0) (c .before .before .before .before .before .before .pre .1 .1) (c .before .before .before .wide .ensures)) .entry _ (c .before .loop-test .taken)))
+
+add-i : tie.Need-add-i Inv-loop μ-loop
+add-i c = search needs
+
+loop-less : tie.Need-loop-less Inv-loop μ-loop
+loop-less c = search needs
+
+loop-again : tie.Need-loop-again Inv-loop μ-loop
+loop-again c =
+    let l = line-lies _ _ _ _ _ (c .before .before .before .before .before .before .before .pre .0) (c .before .before .before .before .before .before .before .pre .1 .0) (c .before .before .before .before .before .before .before .pre .1 .1) (c .before .before .before .before .wide .ensures) in
+    (omega arith, left-more _ _ _ (l .count) _ _ _ (c .before .before .before .loop .inv .1) (c .before .before .loop-test .taken) (c .entry-mask .ensures _ (l .entry _ (c .before .before .loop-test .taken))))
+
+add-entry-mask-3 : tie.Need-add-entry-mask-3 Inv-loop μ-loop
+add-entry-mask-3 c = let l = line-lies _ _ _ _ _ (c .before .before .before .before .before .pre .0) (c .before .before .before .before .before .pre .1 .0) (c .before .before .before .before .before .pre .1 .1) (c .before .before .wide .ensures) in omega arith
+
+add-entry-mask-4 : tie.Need-add-entry-mask-4 Inv-loop μ-loop
+add-entry-mask-4 c = let l = line-lies _ _ _ _ _ (c .before .before .before .before .before .pre .0) (c .before .before .before .before .before .pre .1 .0) (c .before .before .before .before .before .pre .1 .1) (c .before .before .wide .ensures) in omega arith
+
+shared-slice-read-entry-mask-2 : tie.Need-shared-slice-read-entry-mask-2 Inv-loop μ-loop
+shared-slice-read-entry-mask-2 c = let l = line-lies _ _ _ _ _ (c .before .before .before .before .before .before .pre .0) (c .before .before .before .before .before .before .pre .1 .0) (c .before .before .before .before .before .before .pre .1 .1) (c .before .before .before .wide .ensures) in omega arith
+
+entry-mask-requires-2 : tie.Need-entry-mask-requires-2 Inv-loop μ-loop
+entry-mask-requires-2 c κs = (c .before .before .before .before .before .before .pre .0, (_, (line-lies _ _ _ _ _ (c .before .before .before .before .before .before .pre .0) (c .before .before .before .before .before .before .pre .1 .0) (c .before .before .before .before .before .before .pre .1 .1) (c .before .before .before .wide .ensures)) .last))
+
+returns : tie.Need-returns Inv-loop μ-loop
+returns c =
+    let l = line-lies _ _ _ _ _ (c .before .before .before .before .before .before .before .pre .0) (c .before .before .before .before .before .before .before .pre .1 .0) (c .before .before .before .before .before .before .before .pre .1 .1) (c .before .before .before .before .wide .ensures) in
+    line-whole _ _ _ (l .count) _ _ _ (c .before .before .before .loop .inv .1) (c .before .before .before .loop .inv .0) (c .before .before .loop-test .left) (c .entry-mask2 .ensures _ (l .last))
+
+pub line-mask-spec : {M : Type 1} → statement M
+line-mask-spec =
+    tie.close
+    (tie.spec
+    Inv-loop
+    μ-loop
+    shared-slice-read-wide
+    wide-requires
+    loop-holds
+    add-entry-mask
+    add-entry-mask-2
+    shared-slice-read-entry-mask
+    entry-mask-requires
+    add-i
+    loop-less
+    loop-again
+    add-entry-mask-3
+    add-entry-mask-4
+    shared-slice-read-entry-mask-2
+    entry-mask-requires-2
+    returns)

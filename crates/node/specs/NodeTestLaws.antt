@@ -1,0 +1,120 @@
+-- The test of a node, put together.
+--
+--   square-needs     == what the square of variables is made from
+--   node-shows       == the square shows what the variables of the node reach
+--   node-cyclic      == where it has a cycle, the node is dead
+--   node-lines       == where it has none, the lines are to be tested
+--   node-newest      == the mask of the newest variable and those that reach it
+--   lines-skip       == below a live node, a line without any of these does not fail
+--   node-fails       == and the node is dead exactly if one of them fails
+use mathlib.Core.Path.{_≡_, refl, sym, ap, ap₂, subst, _∙_}
+use mathlib.Core.Bool.{Bool, true, false, _||_}
+use mathlib.Core.List.{List}
+use Prim.Native.Nat.{ℕ, _+_, _-_, _*_, _%_, _^_, _≤_, _<_}
+use native.Mathlib.Omega.{arith}
+use lib.Dec.{eqb}
+use lib.ListN.{length, getD}
+use lib.Bits.{bitOr, bitAnd}
+use Rattle.el.specs.TestLaws.{true-is}
+use Rattle.el.specs.Description.{sameRole}
+use Rattle.el.specs.Assignment.{reaches, acyclic}
+use Rattle.el.specs.Walk.{settled, fails, dead}
+use Rattle.el.specs.NodeLaws.{dead-cyclic}
+use Rattle.table.specs.Reading.{byteAt, tableOf}
+use Rattle.table.specs.Layout.{Layout, lineAt}
+use Rattle.table.specs.LayoutLaws.{layout}
+use Rattle.node.specs.declared.Sets.{Sets}
+use Rattle.node.specs.Node.{nodeOf, Clean, Masks, FillMasks, LineMasks, LineStarts, Prepares, Shows, Squares, noCycle, settledBy, leadsBy, failsTo, Newest, LiveAbove, NodeGiven, LinesGiven}
+use Rattle.node.specs.MaskLaws.{masks-or}
+use Rattle.node.specs.CodeLaws.{eqb-comm, mask-one}
+use Rattle.node.specs.SquareLaws.{length-node, acyclic-shown}
+use Rattle.node.specs.ReadyLaws.{settled-says, leads-says}
+use Rattle.node.specs.DeadLaws.{dead-fails, skip-line}
+
+or-comm : (p q : Bool) → p || q ≡ q || p
+or-comm true true = refl
+or-comm true false = refl
+or-comm false true = refl
+or-comm false false = refl
+
+module _ (s : List ℕ) (c e v m : ℕ) (sets : Sets) (given : NodeGiven s c e v m sets) where
+  pub node-layout : Layout s (tableOf s)
+  node-layout = layout s (given .readable)
+
+  pub node-few : sets .chosen ≤ 12
+  node-few =
+      let few : byteAt s 7 ≤ 12 = node-layout .few-variables in
+      let h : sets .chosen ≤ v = given .chosen in
+      let q : v ≡ byteAt s 7 = given .variables in
+      omega arith
+
+  pub square-needs : (fill : List ℕ) → length fill ≡ 24 → (c + e ≤ 24) × (e ≤ length fill) × (sets .chosen ≤ 12) × Clean sets
+  square-needs fill room =
+      let few : byteAt s 5 + byteAt s 8 ≤ 24 = node-layout .few-atoms in
+      let p : c ≡ byteAt s 5 = given .constants in
+      let q : e ≡ byteAt s 8 = given .restrictions in
+      (omega arith, omega arith, node-few, given .clean)
+
+  module _ (fill mask start rows : List ℕ) (ready : Prepares s fill mask start) (square : Squares fill c e sets rows) (room : length (sets .set) ≡ 12) where
+    count : length (nodeOf sets) ≡ sets .chosen
+    count = length-node sets (let h : sets .chosen ≤ 12 = node-few in omega arith)
+
+    few : length (nodeOf sets) ≤ tableOf s .variables
+    few =
+        let h : sets .chosen ≤ v = given .chosen in
+        let q : v ≡ byteAt s 7 = given .variables in
+        let p : tableOf s .variables ≡ byteAt s 7 = node-layout .variables in
+        let n : length (nodeOf sets) ≡ sets .chosen = count in
+        omega arith
+
+    pub node-shows : Shows (tableOf s) (nodeOf sets) rows
+    unfolding Squares
+    node-shows =
+        square (tableOf s) (record {
+          constants = given .constants ∙ sym (node-layout .constants);
+          restrictions = given .restrictions ∙ sym (node-layout .rows);
+          masks = subst (λ (k : ℕ). FillMasks (tableOf s .rows) k fill) (sym (given .restrictions)) (ready .fills);
+        }) (let n : length (nodeOf sets) ≡ sets .chosen = count in let f : length (nodeOf sets) ≤ tableOf s .variables = few in omega arith)
+
+    straight : noCycle rows (sets .chosen) ≡ acyclic (tableOf s) (nodeOf sets)
+    straight = ap (noCycle rows) (sym count) ∙ acyclic-shown (tableOf s) (nodeOf sets) few rows node-shows
+
+    pub node-cyclic : noCycle rows (sets .chosen) ≡ false → dead sameRole (tableOf s) (nodeOf sets) ≡ true
+    node-cyclic q = dead-cyclic sameRole (tableOf s) (nodeOf sets) (sym straight ∙ q)
+
+    module _ (no-cycle : noCycle rows (sets .chosen) ≡ true) where
+      pub node-lines : (k : ℕ) → Masks (settledBy rows (sets .chosen) (sets .chosen)) k → LinesGiven s c e v m sets mask start k
+      node-lines k is = record {
+        node = given;
+        straight = true-is (acyclic (tableOf s) (nodeOf sets)) (sym straight ∙ no-cycle);
+        masks = subst (λ (i : ℕ). LineMasks (tableOf s) i mask) (sym (given .lines)) (ready .masks);
+        starts = subst (λ (i : ℕ). LineStarts s i start) (sym (given .lines)) (ready .starts);
+        few-lines = let q : m ≡ byteAt s 9 = given .lines in let l : byteAt s 9 ≤ 64 = node-layout .few-lines in omega arith;
+        mask-room = ready .mask-room;
+        start-room = ready .start-room;
+        settled = λ y. is y ∙ settled-says (tableOf s) (node-layout .all-declared) (nodeOf sets) rows (sets .chosen) (sym count) node-shows y;
+      }
+
+      pub node-newest : (z k : ℕ) → z ≡ sets .chosen - 1 → z < 32 → Masks (leadsBy rows z (sets .chosen)) k → Newest (tableOf s) (nodeOf sets) (bitOr k (1 * 2 ^ z % 4294967296))
+      unfolding Newest
+      node-newest z k q h is y =
+          masks-or (leadsBy rows z (sets .chosen)) (λ x. eqb z x) k (1 * 2 ^ z % 4294967296) is (mask-one z h) y
+          ∙ or-comm (leadsBy rows z (sets .chosen) y) (eqb z y)
+          ∙ ap₂ _||_ (eqb-comm z y) (leads-says (tableOf s) (nodeOf sets) rows (sets .chosen) z (sym count) few node-shows y)
+          ∙ ap (λ (x : ℕ). eqb y x || reaches (tableOf s) (nodeOf sets) y x) (q ∙ ap (λ (n : ℕ). n - 1) (sym count))
+
+      pub node-fails : failsTo (tableOf s) (nodeOf sets) m ≡ dead sameRole (tableOf s) (nodeOf sets)
+      node-fails = sym (dead-fails (tableOf s) (nodeOf sets) m (given .lines ∙ sym (node-layout .lines)) (sym straight ∙ no-cycle))
+
+-- a line that the newest variable does not concern
+pub lines-skip : (s : List ℕ) (c e v m : ℕ) (sets : Sets) (mask start : List ℕ) (k about n : ℕ) → LinesGiven s c e v m sets mask start k → length (sets .set) ≡ 12
+    → 0 < sets .chosen → LiveAbove (tableOf s) (nodeOf sets) → Newest (tableOf s) (nodeOf sets) about → n < m → bitAnd (getD mask n 0) about ≡ 0
+    → fails sameRole (tableOf s) (nodeOf sets) (lineAt (tableOf s .lines) n) ≡ false
+unfolding LineMasks
+lines-skip s c e v m sets mask start k about n given room h live newest l q =
+    let lies = node-layout s c e v m sets (given .node) in
+    let few : sets .chosen ≤ 12 = node-few s c e v m sets (given .node) in
+    let count : length (nodeOf sets) ≡ sets .chosen = length-node sets (omega arith) in
+    let lines : length (tableOf s .lines) ≡ byteAt s 9 = lies .lines in
+    let m-is : m ≡ byteAt s 9 = given .node .lines in
+    skip-line (tableOf s) (lies .all-declared) (nodeOf sets) about (getD mask n 0) n live (omega arith) newest (given .masks n l) (omega arith) q

@@ -1,0 +1,527 @@
+-- What the line test's code meets, with plain arguments.
+--
+--   power-fits                          == 1 << i is 2 ^ i
+--   filler-read, entry-read             == what a declared code says
+--   filler-..-fits, entry-..-fits       == the number that a declared code holds is in range
+--   set-.., entry-..                    == the set of a filler's, an entry's code, by its kind
+--   constant-kind, flat-kind            == the flat test, by the kinds of the codes
+--   bit-on, bit-off, ..-rest            == what the rest of a set number says of its bits
+--   row-.., atom-.., constant-count     == what the bytes of a row say, and how many atoms there are
+--   any-.., all-..                      == a loop over numbers begins, and ends
+--   RowAsk, AtomAsk                     == what is asked of each row, of each atom of the right set
+--   set-constant, set-rows              == a conjunction below a constant, and below a restriction
+--   filler-flat, filler-atoms           == a filler below a filler
+--   few-atoms, given                    == what the two questions are given
+--   line-inside, left-.., right-..      == what the bytes of a line say
+--   EntryAsk, LineAsk                   == what is asked of each left entry, of each atom of the right entry
+--   left-entries                        == some left entry lies below an atom
+--   line-atoms                          == the line holds
+use mathlib.Core.Path.{_≡_, refl, sym, ap, ap₂, subst, _∙_}
+use mathlib.Core.Bool.{Bool, true, false, _&&_, _||_, not}
+use mathlib.Core.List.{List, []}
+use mathlib.Core.Option.{none, some}
+use Prim.Native.Nat.{ℕ, zero, suc, _+_, _-_, _*_, _/_, _%_, _^_, _≤_, _<_}
+use native.Mathlib.Omega.{arith}
+use native.Mathlib.Nat.{one-mul, mod-eq-of-lt, zero-div}
+use native.Mathlib.Decide.{decLt}
+use lib.Dec.{T, eqb, ltb}
+use lib.ListN.{length, getD}
+use lib.Pow.{pow-lt, shr-shr}
+use borrow.Author.Tests.{eq-eqb, ne-eqb, lt-ltb, le-ltb}
+use Rattle.el.specs.Description.{sameRole}
+use Rattle.el.specs.Test.{anyBelow, allBelow, anyOf, everyOf, bit}
+use Rattle.el.specs.TestLaws.{and-right, anyOf-hit, anyOf-found, everyOf-at, same-test, false-not, anyBelow-hit, anyBelow-found, anyBelow-none, anyBelow-same, anyBelow-false-at, allBelow-every, allBelow-true-at}
+use Rattle.el.specs.Table.{Filler, topF, constantF, variableF, Entry, constant, restriction, variable, Line, Table, rowAt, atoms, rowDeclared, lineDeclared, declared}
+use Rattle.el.specs.Meaning.{holds}
+use Rattle.el.specs.Assignment.{Assignment, setOf, acyclic, induced}
+use Rattle.table.specs.declared.Kind.{Kind}
+use Rattle.table.specs.declared.Kind.the-variants.{Top, Constant, Restriction, Variable, Other}
+use Rattle.table.specs.Code.{kindOf, fillerOf, fillerOfKind, entryOf, entryOfKind}
+use Rattle.table.specs.Reading.{byteAt, reading, isReadable, tableOf}
+use Rattle.table.specs.Layout.{lineAt, lineStart, Layout}
+use Rattle.table.specs.LayoutLaws.{within-some, layout}
+use Rattle.order.specs.Rule.{fillerSet, entrySet, atomRow, isConstant, flatTest, atomTest, setTest, fillerTest, entryTest, leftTest, lineTest}
+use Rattle.order.specs.RuleLaws.{any-one, line-rule}
+use Rattle.order.specs.Given.{fillerFromKind, fillerFrom, entryFromKind, entryFrom, IsFiller, IsEntry, Given, setBelow, fillerBelow}
+
+----------------------------------------------------------------------------------------------------
+-- Codes
+
+pub power-fits : (i : ℕ) → i < 32 → 1 * 2 ^ i % 4294967296 ≡ 2 ^ i
+power-fits i h = ap (λ (k : ℕ). k % 4294967296) (one-mul (2 ^ i)) ∙ mod-eq-of-lt (pow-lt h)
+
+not-none : {A : Type 0} (x : A) → none ≡ some x → ⊥
+not-none x q = let z : _≡_ {A = ℕ} 0 1 = cc in omega arith
+
+kind-filler : (c v : ℕ) (k : Kind) (f : Filler) → fillerOfKind c v k ≡ some f → fillerFromKind k ≡ f
+unfolding fillerOfKind
+kind-filler c v Top f q = cc
+kind-filler c v (Constant k) f q = within-some k c (constantF k) f q .1
+kind-filler c v (Restriction k) f q = absurd (not-none f q)
+kind-filler c v (Variable k) f q = within-some k v (variableF k) f q .1
+kind-filler c v Other f q = absurd (not-none f q)
+
+kind-entry : (c e v : ℕ) (k : Kind) (x : Entry) → entryOfKind c e v k ≡ some x → entryFromKind k ≡ x
+unfolding entryOfKind
+kind-entry c e v Top x q = absurd (not-none x q)
+kind-entry c e v (Constant k) x q = within-some k c (constant k) x q .1
+kind-entry c e v (Restriction k) x q = within-some k e (restriction k) x q .1
+kind-entry c e v (Variable k) x q = within-some k v (variable k) x q .1
+kind-entry c e v Other x q = absurd (not-none x q)
+
+pub filler-read : (s : List ℕ) (b : ℕ) (f : Filler) → fillerOf (byteAt s 5) (byteAt s 7) b ≡ some f → fillerFrom b ≡ f
+unfolding fillerOf fillerFrom
+filler-read s b f q = kind-filler (byteAt s 5) (byteAt s 7) (kindOf b) f q
+
+pub entry-read : (s : List ℕ) (b : ℕ) (x : Entry) → entryOf (byteAt s 5) (byteAt s 8) (byteAt s 7) b ≡ some x → entryFrom b ≡ x
+unfolding entryOf entryFrom
+entry-read s b x q = kind-entry (byteAt s 5) (byteAt s 8) (byteAt s 7) (kindOf b) x q
+
+module _ (s : List ℕ) (b : ℕ) (k : ℕ) where
+  pub filler-constant : IsFiller s b → kindOf b ≡ Constant k → k < byteAt s 5
+  unfolding IsFiller fillerOf fillerOfKind fillerFrom
+  filler-constant q e = within-some k (byteAt s 5) (constantF k) (fillerFromKind (kindOf b)) (ap (fillerOfKind (byteAt s 5) (byteAt s 7)) (sym e) ∙ q) .0
+
+  pub filler-variable : IsFiller s b → kindOf b ≡ Variable k → k < byteAt s 7
+  unfolding IsFiller fillerOf fillerOfKind fillerFrom
+  filler-variable q e = within-some k (byteAt s 7) (variableF k) (fillerFromKind (kindOf b)) (ap (fillerOfKind (byteAt s 5) (byteAt s 7)) (sym e) ∙ q) .0
+
+  pub entry-constant : IsEntry s b → kindOf b ≡ Constant k → k < byteAt s 5
+  unfolding IsEntry entryOf entryOfKind entryFrom
+  entry-constant q e = within-some k (byteAt s 5) (constant k) (entryFromKind (kindOf b)) (ap (entryOfKind (byteAt s 5) (byteAt s 8) (byteAt s 7)) (sym e) ∙ q) .0
+
+  pub entry-restriction : IsEntry s b → kindOf b ≡ Restriction k → k < byteAt s 8
+  unfolding IsEntry entryOf entryOfKind entryFrom
+  entry-restriction q e = within-some k (byteAt s 8) (restriction k) (entryFromKind (kindOf b)) (ap (entryOfKind (byteAt s 5) (byteAt s 8) (byteAt s 7)) (sym e) ∙ q) .0
+
+  pub entry-variable : IsEntry s b → kindOf b ≡ Variable k → k < byteAt s 7
+  unfolding IsEntry entryOf entryOfKind entryFrom
+  entry-variable q e = within-some k (byteAt s 7) (variable k) (entryFromKind (kindOf b)) (ap (entryOfKind (byteAt s 5) (byteAt s 8) (byteAt s 7)) (sym e) ∙ q) .0
+
+-- the number w that a code's kind holds fits a shift, or is a place among the sets
+module _ (s : List ℕ) (a : Assignment) (c e : ℕ) (g : Given s a c e) (b k w : ℕ) (same : w ≡ k) where
+  pub filler-constant-fits : IsFiller s b → kindOf b ≡ Constant k → w < 32
+  filler-constant-fits q p = let h : k < byteAt s 5 = filler-constant s b k q p in let m : c ≡ byteAt s 5 = g .constants in let l : c + e ≤ 24 = g .few-atoms in omega arith
+
+  pub filler-variable-fits : IsFiller s b → kindOf b ≡ Variable k → w < length a
+  filler-variable-fits q p = let h : k < byteAt s 7 = filler-variable s b k q p in let m : byteAt s 7 ≤ 12 = layout s (g .readable) .few-variables in let l : length a ≡ 12 = g .sets in omega arith
+
+  pub entry-constant-fits : IsEntry s b → kindOf b ≡ Constant k → w < 32
+  entry-constant-fits q p = let h : k < byteAt s 5 = entry-constant s b k q p in let m : c ≡ byteAt s 5 = g .constants in let l : c + e ≤ 24 = g .few-atoms in omega arith
+
+  pub entry-restriction-fits : IsEntry s b → kindOf b ≡ Restriction k → c + w < 32
+  entry-restriction-fits q p = let h : k < byteAt s 8 = entry-restriction s b k q p in let m : e ≡ byteAt s 8 = g .restrictions in let l : c + e ≤ 24 = g .few-atoms in omega arith
+
+  pub entry-variable-fits : IsEntry s b → kindOf b ≡ Variable k → w < length a
+  entry-variable-fits q p = let h : k < byteAt s 7 = entry-variable s b k q p in let m : byteAt s 7 ≤ 12 = layout s (g .readable) .few-variables in let l : length a ≡ 12 = g .sets in omega arith
+
+-- the set of a filler's code, by its kind
+module _ (a : Assignment) (b : ℕ) where
+  pub set-none : (k : Kind) → kindOf b ≡ k → fillerFromKind k ≡ topF → 0 ≡ fillerSet a (fillerFrom b)
+  unfolding fillerFrom fillerSet
+  set-none k e q = ap (fillerSet a) (sym q ∙ ap fillerFromKind (sym e))
+
+  pub set-one : (k w : ℕ) → w ≡ k → w < 32 → kindOf b ≡ Constant k → 1 * 2 ^ w % 4294967296 ≡ fillerSet a (fillerFrom b)
+  unfolding fillerFrom fillerSet
+  set-one k w q h e = power-fits w h ∙ ap (λ (n : ℕ). 2 ^ n) q ∙ ap (λ x. fillerSet a (fillerFromKind x)) (sym e)
+
+  pub set-given : (k w : ℕ) → w ≡ k → kindOf b ≡ Variable k → getD a w 0 ≡ fillerSet a (fillerFrom b)
+  unfolding fillerFrom fillerSet setOf
+  set-given k w q e = ap (λ (n : ℕ). getD a n 0) q ∙ ap (λ x. fillerSet a (fillerFromKind x)) (sym e)
+
+-- the set of an entry's code, by its kind
+module _ (t : Table) (a : Assignment) (b : ℕ) where
+  pub entry-none : (k : Kind) → kindOf b ≡ k → entryFromKind k ≡ constant 0 → 1 ≡ entrySet t a (entryFrom b)
+  unfolding entryFrom entrySet
+  entry-none k e q = ap (entrySet t a) (sym q ∙ ap entryFromKind (sym e))
+
+  pub entry-one : (k w : ℕ) → w ≡ k → w < 32 → kindOf b ≡ Constant k → 1 * 2 ^ w % 4294967296 ≡ entrySet t a (entryFrom b)
+  unfolding entryFrom entrySet
+  entry-one k w q h e = power-fits w h ∙ ap (λ (n : ℕ). 2 ^ n) q ∙ ap (λ x. entrySet t a (entryFromKind x)) (sym e)
+
+  pub entry-row : (c k w : ℕ) → c ≡ t .constants → w ≡ k → c + w < 32 → kindOf b ≡ Restriction k → 1 * 2 ^ (c + w) % 4294967296 ≡ entrySet t a (entryFrom b)
+  unfolding entryFrom entrySet
+  entry-row c k w r q h e = power-fits (c + w) h ∙ ap₂ (λ (m n : ℕ). 2 ^ (m + n)) r q ∙ ap (λ x. entrySet t a (entryFromKind x)) (sym e)
+
+  pub entry-given : (k w : ℕ) → w ≡ k → kindOf b ≡ Variable k → getD a w 0 ≡ entrySet t a (entryFrom b)
+  unfolding entryFrom entrySet setOf
+  entry-given k w q e = ap (λ (n : ℕ). getD a n 0) q ∙ ap (λ x. entrySet t a (entryFromKind x)) (sym e)
+
+-- the flat test by the kinds of the codes
+pub constant-kind : (b k : ℕ) (x : Kind) → kindOf b ≡ x → isConstant k (fillerFromKind x) ≡ isConstant k (fillerFrom b)
+unfolding fillerFrom
+constant-kind b k x e = ap (λ y. isConstant k (fillerFromKind y)) (sym e)
+
+pub flat-kind : (f g : ℕ) (x : Kind) → kindOf g ≡ x → flatTest (fillerFrom f) (fillerFromKind x) ≡ flatTest (fillerFrom f) (fillerFrom g)
+unfolding fillerFrom
+flat-kind f g x e = ap (λ y. flatTest (fillerFromKind (kindOf f)) (fillerFromKind y)) (sym e)
+
+----------------------------------------------------------------------------------------------------
+-- Rests of a set number
+
+rest-none : (S j i : ℕ) → S / 2 ^ j ≡ 0 → j ≤ i → bit i S ≡ false
+unfolding bit
+rest-none S j i e h =
+    let q : j + (i - j) ≡ i = omega arith in
+    let z : S / 2 ^ i ≡ 0 = ap (λ (m : ℕ). S / 2 ^ m) (sym q) ∙ sym (shr-shr S j (i - j)) ∙ ap (λ (m : ℕ). m / 2 ^ (i - j)) e ∙ zero-div (2 ^ (i - j)) in
+    ap (λ (m : ℕ). eqb (m % 2) 1) z
+
+pub bit-on : (S j : ℕ) → S / 2 ^ j % 2 ≡ 1 → bit j S ≡ true
+unfolding bit
+bit-on S j e = eq-eqb (S / 2 ^ j % 2) 1 e
+
+pub bit-off : (S j : ℕ) → (S / 2 ^ j % 2 ≡ 1 → ⊥) → bit j S ≡ false
+unfolding bit
+bit-off S j e = ne-eqb (S / 2 ^ j % 2) 1 e
+
+----------------------------------------------------------------------------------------------------
+-- What the bytes of a row say
+
+module _ (s : List ℕ) (a : Assignment) (c e : ℕ) (g : Given s a c e) where
+  pub atom-count : atoms (tableOf s) ≡ c + e
+  unfolding atoms
+  atom-count = let l = layout s (g .readable) in ap₂ _+_ (l .constants ∙ sym (g .constants)) (l .rows ∙ sym (g .restrictions))
+
+  pub constant-count : tableOf s .constants ≡ c
+  constant-count = layout s (g .readable) .constants ∙ sym (g .constants)
+
+  row-in : (k : ℕ) → k < e → k < byteAt s 8
+  row-in k h = subst (λ (n : ℕ). k < n) (g .restrictions) h
+
+  row-role : (k : ℕ) → k < e → rowAt (tableOf s .rows) k .role ≡ byteAt s (10 + 2 * k)
+  row-role k h = layout s (g .readable) .row-role k (row-in k h)
+
+  row-code : (k : ℕ) → k < e → fillerFrom (byteAt s (11 + 2 * k)) ≡ rowAt (tableOf s .rows) k .filler
+  row-code k h = filler-read s (byteAt s (11 + 2 * k)) (rowAt (tableOf s .rows) k .filler) (layout s (g .readable) .row-filler k (row-in k h))
+
+  pub row-filler : (k : ℕ) → k < e → IsFiller s (byteAt s (11 + 2 * k))
+  unfolding IsFiller
+  row-filler k h = layout s (g .readable) .row-filler k (row-in k h) ∙ ap some (sym (row-code k h))
+
+  pub atom-filler-code : (j : ℕ) → c ≤ j → j < c + e → IsFiller s (byteAt s (10 + 2 * (j - c) + 1))
+  atom-filler-code j h l = subst (λ (n : ℕ). IsFiller s (byteAt s n)) (next (j - c)) (row-filler (j - c) (omega arith))
+    where
+      next : (k : ℕ) → 11 + 2 * k ≡ 10 + 2 * k + 1
+      next k = omega arith
+
+  -- the row of atom i, which is restriction i - c
+  atom-role : (i : ℕ) → c ≤ i → i < c + e → atomRow (tableOf s) i .role ≡ byteAt s (10 + 2 * (i - c))
+  unfolding atomRow
+  atom-role i h l = ap (λ (n : ℕ). rowAt (tableOf s .rows) (i - n) .role) constant-count ∙ row-role (i - c) (omega arith)
+
+  atom-filler : (i : ℕ) → c ≤ i → i < c + e → atomRow (tableOf s) i .filler ≡ fillerFrom (byteAt s (11 + 2 * (i - c)))
+  unfolding atomRow
+  atom-filler i h l = ap (λ (n : ℕ). rowAt (tableOf s .rows) (i - n) .filler) constant-count ∙ sym (row-code (i - c) (omega arith))
+
+----------------------------------------------------------------------------------------------------
+-- A conjunction below an atom
+
+-- an atom i below a constant j, and below a restriction j
+atom-constant : (under : ℕ → ℕ → Bool) (t : Table) (fb : Filler → Filler → Bool) (i j : ℕ) → j < t .constants → atomTest under t fb i j ≡ eqb i j
+unfolding atomTest
+atom-constant under t fb i j h = rw (lt-ltb j (t .constants) h, atomTest)
+
+atom-restriction : (under : ℕ → ℕ → Bool) (t : Table) (fb : Filler → Filler → Bool) (i j : ℕ) → t .constants ≤ j
+    → atomTest under t fb i j ≡ not (ltb i (t .constants)) && (under (atomRow t i .role) (atomRow t j .role) && fb (atomRow t i .filler) (atomRow t j .filler))
+unfolding atomTest
+atom-restriction under t fb i j h = rw (le-ltb j (t .constants) h, atomTest)
+
+and-swap : (x y : Bool) → x && y ≡ y && x
+and-swap true true = refl
+and-swap true false = refl
+and-swap false true = refl
+and-swap false false = refl
+
+and-no : (x : Bool) → x && false ≡ false
+and-no true = refl
+and-no false = refl
+
+-- the first c numbers do not pass
+any-from : (c e : ℕ) (p : ℕ → Bool) → ((i : ℕ) → i < c → p i ≡ false) → anyBelow (c + e) p ≡ anyBelow e (λ k. p (c + k))
+any-from c e p low = same-test (anyBelow (c + e) p) (anyBelow e (λ k. p (c + k))) there back
+  where
+    split : (i : ℕ) → i < c + e → T (p i) → Dec (i < c) → T (anyBelow e (λ k. p (c + k)))
+    split i h u (yes l) = absurd (false-not (p i) (low i l) u)
+    split i h u (no l) =
+        let q : i ≡ c + (i - c) = omega arith in
+        anyBelow-hit e (i - c) (λ k. p (c + k)) (omega arith) (subst (λ (m : ℕ). T (p m)) q u)
+
+    there : T (anyBelow (c + e) p) → T (anyBelow e (λ k. p (c + k)))
+    there u = let r = anyBelow-found (c + e) p u in split (r .0) (r .1) (r .2) (decLt (r .0) c)
+
+    back : T (anyBelow e (λ k. p (c + k))) → T (anyBelow (c + e) p)
+    back u = let r = anyBelow-found e (λ k. p (c + k)) u in let h : r .0 < e = r .1 in anyBelow-hit (c + e) (c + r .0) p (omega arith) (r .2)
+
+-- a loop over numbers begins, and ends
+pub any-start : (p : ℕ → Bool) → anyBelow 0 p ≡ false
+unfolding anyBelow
+any-start p = refl
+
+pub any-end : (n i : ℕ) (p : ℕ → Bool) → n ≤ i → i ≤ n → anyBelow i p ≡ false → anyBelow n p ≡ false
+any-end n i p h l e = let q : n ≡ i = omega arith in rw q e
+
+pub all-start : (p : ℕ → Bool) → allBelow 0 p ≡ true
+unfolding allBelow
+all-start p = refl
+
+pub all-end : (n i : ℕ) (p : ℕ → Bool) → n ≤ i → i ≤ n → allBelow i p ≡ true → allBelow n p ≡ true
+all-end n i p h l e = let q : n ≡ i = omega arith in rw q e
+
+-- what is asked of row k: is it in the set S, has it the role, and does its filler lie below the filler g
+unfoldable pub RowAsk : List ℕ → Assignment → ℕ → ℕ → ℕ → ℕ → ℕ → ℕ → Bool
+RowAsk s a c d S role g k = bit (c + k) S && (eqb (byteAt s (10 + 2 * k)) role && fillerBelow s a d (byteAt s (11 + 2 * k)) g)
+
+module _ (s : List ℕ) (a : Assignment) (c d S role g k : ℕ) where
+  pub row-off : bit (c + k) S ≡ false → RowAsk s a c d S role g k ≡ false
+  unfolding RowAsk
+  row-off e = rw e
+
+  pub row-other : (byteAt s (10 + 2 * k) ≡ role → ⊥) → RowAsk s a c d S role g k ≡ false
+  unfolding RowAsk
+  row-other n = rw (ne-eqb (byteAt s (10 + 2 * k)) role n) (and-no (bit (c + k) S))
+
+  pub row-false : fillerBelow s a d (byteAt s (11 + 2 * k)) g ≡ false → RowAsk s a c d S role g k ≡ false
+  unfolding RowAsk
+  row-false e = rw (e, and-no (eqb (byteAt s (10 + 2 * k)) role)) (and-no (bit (c + k) S))
+
+  pub row-true : bit (c + k) S ≡ true → byteAt s (10 + 2 * k) ≡ role → fillerBelow s a d (byteAt s (11 + 2 * k)) g ≡ true → RowAsk s a c d S role g k ≡ true
+  unfolding RowAsk
+  row-true e r f = rw (e, eq-eqb (byteAt s (10 + 2 * k)) role r, f)
+
+  -- no row from k on is in the set
+  pub rows-rest : (e : ℕ) → anyBelow k (RowAsk s a c d S role g) ≡ false → S / 2 ^ (c + k) ≡ 0 → anyBelow e (RowAsk s a c d S role g) ≡ false
+  unfolding RowAsk
+  rows-rest e before z = anyBelow-none e (RowAsk s a c d S role g) (λ i h. go i (decLt i k))
+    where
+      go : (i : ℕ) → Dec (i < k) → RowAsk s a c d S role g i ≡ false
+      go i (yes l) = anyBelow-false-at k i (RowAsk s a c d S role g) before l
+      go i (no l) = rw (rest-none S (c + k) (c + i) z (omega arith))
+
+module _ (s : List ℕ) (a : Assignment) (c e : ℕ) (g : Given s a c e) (d S j : ℕ) where
+  pub set-constant : j < c → bit j S ≡ setBelow s a d S j
+  unfolding setBelow setTest
+  set-constant h = sym (
+      ap (λ (n : ℕ). anyBelow n (λ i. bit i S && atomTest sameRole (tableOf s) (fillerTest sameRole (tableOf s) a d) i j)) (atom-count s a c e g)
+      ∙ anyBelow-same (c + e) (λ i. bit i S && atomTest sameRole (tableOf s) (fillerTest sameRole (tableOf s) a d) i j) (λ i. eqb i j && bit i S)
+      (λ i l. ap (λ b. bit i S && b) (atom-constant sameRole (tableOf s) (fillerTest sameRole (tableOf s) a d) i j (subst (λ (n : ℕ). j < n) (sym (constant-count s a c e g)) h)) ∙ and-swap (bit i S) (eqb i j))
+      ∙ any-one (λ i. eqb i j) (λ i. bit i S) (c + e) j (omega arith) (λ i. refl))
+
+  -- below the restriction j: some row of the set has its role, and a filler below its own
+  pub set-rows : c ≤ j → j < c + e → setBelow s a d S j ≡ anyBelow e (RowAsk s a c d S (byteAt s (10 + 2 * (j - c))) (byteAt s (10 + 2 * (j - c) + 1)))
+  unfolding setBelow setTest RowAsk fillerBelow sameRole
+  set-rows h l =
+      ap (λ (n : ℕ). anyBelow n ask) (atom-count s a c e g)
+      ∙ any-from c e ask low
+      ∙ anyBelow-same e (λ k. ask (c + k)) (RowAsk s a c d S (byteAt s (10 + 2 * (j - c))) (byteAt s (11 + 2 * (j - c)))) same
+      ∙ ap (λ (n : ℕ). anyBelow e (RowAsk s a c d S (byteAt s (10 + 2 * (j - c))) (byteAt s n))) (next (j - c))
+    where
+      fb : Filler → Filler → Bool
+      fb = fillerTest sameRole (tableOf s) a d
+
+      ask : ℕ → Bool
+      ask i = bit i S && atomTest sameRole (tableOf s) (fillerTest sameRole (tableOf s) a d) i j
+
+      in-rows : tableOf s .constants ≤ j
+      in-rows = subst (λ (n : ℕ). n ≤ j) (sym (constant-count s a c e g)) h
+
+      opened : (i : ℕ) → ask i ≡ bit i S && (not (ltb i (tableOf s .constants)) && (sameRole (atomRow (tableOf s) i .role) (atomRow (tableOf s) j .role) && fb (atomRow (tableOf s) i .filler) (atomRow (tableOf s) j .filler)))
+      opened i = ap (λ b. bit i S && b) (atom-restriction sameRole (tableOf s) fb i j in-rows)
+
+      low : (i : ℕ) → i < c → ask i ≡ false
+      low i k = opened i ∙ rw (lt-ltb i (tableOf s .constants) (subst (λ (n : ℕ). i < n) (sym (constant-count s a c e g)) k)) (and-no (bit i S))
+
+      next : (k : ℕ) → 11 + 2 * k ≡ 10 + 2 * k + 1
+      next k = omega arith
+
+      back : (k : ℕ) → c + k - c ≡ k
+      back k = omega arith
+
+      same : (k : ℕ) → k < e → ask (c + k) ≡ RowAsk s a c d S (byteAt s (10 + 2 * (j - c))) (byteAt s (11 + 2 * (j - c))) k
+      same k m =
+          opened (c + k)
+          ∙ ap (λ b. bit (c + k) S && (not b && (sameRole (atomRow (tableOf s) (c + k) .role) (atomRow (tableOf s) j .role) && fb (atomRow (tableOf s) (c + k) .filler) (atomRow (tableOf s) j .filler))))
+          (le-ltb (c + k) (tableOf s .constants) (subst (λ (n : ℕ). n ≤ c + k) (sym (constant-count s a c e g)) (omega arith)))
+          ∙ ap₂ (λ x y. bit (c + k) S && (x && y))
+          (ap₂ sameRole (atom-role s a c e g (c + k) (omega arith) (omega arith) ∙ ap (λ (n : ℕ). byteAt s (10 + 2 * n)) (back k)) (atom-role s a c e g j h l))
+          (ap₂ fb (atom-filler s a c e g (c + k) (omega arith) (omega arith) ∙ ap (λ (n : ℕ). fillerFrom (byteAt s (11 + 2 * n))) (back k)) (atom-filler s a c e g j h l))
+
+----------------------------------------------------------------------------------------------------
+-- A filler below a filler
+
+-- what is asked of atom j: is it in the right set, then the left set lies below it
+unfoldable pub AtomAsk : List ℕ → Assignment → ℕ → ℕ → ℕ → ℕ → Bool
+AtomAsk s a d L R j = not (bit j R) || setBelow s a d L j
+
+or-yes : (x : Bool) → x || true ≡ true
+or-yes true = refl
+or-yes false = refl
+
+module _ (s : List ℕ) (a : Assignment) (d L R j : ℕ) where
+  pub atom-off : bit j R ≡ false → AtomAsk s a d L R j ≡ true
+  unfolding AtomAsk
+  atom-off e = rw e
+
+  pub atom-true : setBelow s a d L j ≡ true → AtomAsk s a d L R j ≡ true
+  unfolding AtomAsk
+  atom-true e = rw e (or-yes (not (bit j R)))
+
+  pub atom-false : bit j R ≡ true → setBelow s a d L j ≡ false → AtomAsk s a d L R j ≡ false
+  unfolding AtomAsk
+  atom-false e f = rw (e, f)
+
+  -- no atom from j on is in the right set
+  pub atoms-rest : (n : ℕ) → allBelow j (AtomAsk s a d L R) ≡ true → R / 2 ^ j ≡ 0 → allBelow n (AtomAsk s a d L R) ≡ true
+  unfolding AtomAsk
+  atoms-rest n before z = allBelow-every n (AtomAsk s a d L R) (λ i h. go i (decLt i j))
+    where
+      go : (i : ℕ) → Dec (i < j) → AtomAsk s a d L R i ≡ true
+      go i (yes l) = allBelow-true-at j i (AtomAsk s a d L R) before l
+      go i (no l) = rw (rest-none R j i z (omega arith))
+
+pub filler-flat : (s : List ℕ) (a : Assignment) (d f g : ℕ) → d ≡ 0 → flatTest (fillerFrom f) (fillerFrom g) ≡ fillerBelow s a d f g
+unfolding fillerBelow fillerTest
+filler-flat s a d f g e = rw e
+
+pub filler-atoms : (s : List ℕ) (a : Assignment) (c e : ℕ) → Given s a c e → (d f g L R : ℕ) → (d ≡ 0 → ⊥) → L ≡ fillerSet a (fillerFrom f) → R ≡ fillerSet a (fillerFrom g)
+    → fillerBelow s a d f g ≡ allBelow (c + e) (AtomAsk s a (d - 1) L R)
+unfolding fillerBelow fillerTest AtomAsk setBelow
+filler-atoms s a c e q zero f g L R n l r = absurd (n refl)
+filler-atoms s a c e q (suc d) f g L R n l r =
+    ap (λ (m : ℕ). allBelow m (λ j. not (bit j (fillerSet a (fillerFrom g))) || setTest sameRole (tableOf s) (fillerTest sameRole (tableOf s) a d) (fillerSet a (fillerFrom f)) j)) (atom-count s a c e q)
+    ∙ ap₂ (λ x y. allBelow (c + e) (λ j. not (bit j y) || setTest sameRole (tableOf s) (fillerTest sameRole (tableOf s) a d) x j)) (sym l) (sym r)
+    ∙ ap (λ (k : ℕ). allBelow (c + e) (λ j. not (bit j R) || setTest sameRole (tableOf s) (fillerTest sameRole (tableOf s) a k) L j)) (less d)
+  where
+    less : (k : ℕ) → k ≡ suc k - 1
+    less k = omega arith
+
+----------------------------------------------------------------------------------------------------
+-- A line
+
+pub few-atoms : (s : List ℕ) (c e : ℕ) → T (isReadable (reading s)) → c ≡ byteAt s 5 → e ≡ byteAt s 8 → c + e ≤ 24
+few-atoms s c e ok p q = let h : byteAt s 5 + byteAt s 8 ≤ 24 = layout s ok .few-atoms in omega arith
+
+pub given : (s : List ℕ) (a : Assignment) (c e : ℕ) → T (isReadable (reading s)) → length a ≡ 12 → c ≡ byteAt s 5 → e ≡ byteAt s 8 → Given s a c e
+given s a c e ok m p q =
+    record {
+      readable = ok;
+      constants = p;
+      restrictions = q;
+      few-atoms = few-atoms s c e ok p q;
+      rows-in = inside e q;
+      sets = m;
+    }
+  where
+    inside : (k : ℕ) → k ≡ byteAt s 8 → 10 + 2 * k ≤ length s
+    inside zero u = layout s ok .header-in
+    inside (suc k) u = let h : 11 + 2 * k < length s = layout s ok .row-in k (omega arith) in omega arith
+
+-- line n begins at the byte `at`
+module _ (s : List ℕ) (ok : T (isReadable (reading s))) (n at : ℕ) (few : n < byteAt s 9) (begins : at ≡ lineStart s n) where
+  pub line-inside : at + byteAt s at + 2 ≤ length s
+  line-inside = subst (λ (k : ℕ). k + byteAt s k + 2 ≤ length s) (sym begins) (layout s ok .line-in n few)
+
+  left-length : length (lineAt (tableOf s .lines) n .left) ≡ byteAt s at
+  left-length = layout s ok .line-left n few ∙ ap (byteAt s) (sym begins)
+
+  left-code : (i : ℕ) → i < byteAt s at → entryOf (byteAt s 5) (byteAt s 8) (byteAt s 7) (byteAt s (at + 1 + i)) ≡ some (getD (lineAt (tableOf s .lines) n .left) i (constant 0))
+  left-code i h =
+      ap (λ (k : ℕ). entryOf (byteAt s 5) (byteAt s 8) (byteAt s 7) (byteAt s (k + 1 + i))) begins
+      ∙ layout s ok .line-entry n i few (subst (λ (k : ℕ). i < byteAt s k) begins h)
+
+  right-code : entryOf (byteAt s 5) (byteAt s 8) (byteAt s 7) (byteAt s (at + 1 + byteAt s at)) ≡ some (lineAt (tableOf s .lines) n .right)
+  right-code = ap (λ (k : ℕ). entryOf (byteAt s 5) (byteAt s 8) (byteAt s 7) (byteAt s (k + 1 + byteAt s k))) begins ∙ layout s ok .line-right n few
+
+  left-from : (i : ℕ) → i < byteAt s at → entryFrom (byteAt s (at + 1 + i)) ≡ getD (lineAt (tableOf s .lines) n .left) i (constant 0)
+  left-from i h = entry-read s (byteAt s (at + 1 + i)) (getD (lineAt (tableOf s .lines) n .left) i (constant 0)) (left-code i h)
+
+  right-from : entryFrom (byteAt s (at + 1 + byteAt s at)) ≡ lineAt (tableOf s .lines) n .right
+  right-from = entry-read s (byteAt s (at + 1 + byteAt s at)) (lineAt (tableOf s .lines) n .right) right-code
+
+  -- p is the left count
+  module _ (p : ℕ) (many : p ≡ byteAt s at) where
+    pub left-entry : (i : ℕ) → i < p → IsEntry s (byteAt s (at + 1 + i))
+    unfolding IsEntry
+    left-entry i h = let l : i < byteAt s at = omega arith in left-code i l ∙ ap some (sym (left-from i l))
+
+    pub right-entry : IsEntry s (byteAt s (at + 1 + p))
+    unfolding IsEntry
+    right-entry = rw many (right-code ∙ ap some (sym right-from))
+
+-- a test over a list asks each place
+any-places : {A : Type 0} (p : A → Bool) (l : List A) (d : A) → anyOf p l ≡ anyBelow (length l) (λ i. p (getD l i d))
+any-places p l d =
+    same-test (anyOf p l) (anyBelow (length l) (λ i. p (getD l i d)))
+    (λ u. let r = anyOf-found p l d u in anyBelow-hit (length l) (r .0) (λ i. p (getD l i d)) (r .1) (r .2))
+    (λ u. let r = anyBelow-found (length l) (λ i. p (getD l i d)) u in anyOf-hit p l (r .0) d (r .1) (r .2))
+
+-- what is asked of left entry i: does its set lie below atom j
+unfoldable pub EntryAsk : List ℕ → Assignment → ℕ → ℕ → ℕ → ℕ → Bool
+EntryAsk s a v at j i = setBelow s a v (entrySet (tableOf s) a (entryFrom (byteAt s (at + 1 + i)))) j
+
+module _ (s : List ℕ) (a : Assignment) (v at j i S : ℕ) (set : S ≡ entrySet (tableOf s) a (entryFrom (byteAt s (at + 1 + i)))) where
+  pub entry-answer : (b : Bool) → setBelow s a v S j ≡ b → EntryAsk s a v at j i ≡ b
+  unfolding EntryAsk
+  entry-answer b e = ap (λ (R : ℕ). setBelow s a v R j) (sym set) ∙ e
+
+module _ (s : List ℕ) (a : Assignment) (ok : T (isReadable (reading s))) (n at : ℕ) (few : n < byteAt s 9) (begins : at ≡ lineStart s n) (p : ℕ) (many : p ≡ byteAt s at) where
+  pub left-entries : (v : ℕ) → v ≡ byteAt s 7 → (j : ℕ) → leftTest sameRole (tableOf s) a (lineAt (tableOf s .lines) n .left) j ≡ anyBelow p (EntryAsk s a v at j)
+  unfolding leftTest entryTest EntryAsk setBelow
+  left-entries v w j =
+      any-places (λ x. setTest sameRole (tableOf s) (fillerTest sameRole (tableOf s) a (tableOf s .variables)) (entrySet (tableOf s) a x) j) (lineAt (tableOf s .lines) n .left) (constant 0)
+      ∙ ap (λ (k : ℕ). anyBelow k asked) (left-length s ok n at few begins ∙ sym many)
+      ∙ anyBelow-same p asked (EntryAsk s a v at j) same
+    where
+      asked : ℕ → Bool
+      asked i = setTest sameRole (tableOf s) (fillerTest sameRole (tableOf s) a (tableOf s .variables)) (entrySet (tableOf s) a (getD (lineAt (tableOf s .lines) n .left) i (constant 0))) j
+
+      same : (i : ℕ) → i < p → asked i ≡ EntryAsk s a v at j i
+      same i h =
+          ap₂ (λ (k : ℕ) x. setTest sameRole (tableOf s) (fillerTest sameRole (tableOf s) a k) (entrySet (tableOf s) a x) j)
+          (layout s ok .variables ∙ sym w) (sym (left-from s ok n at few begins i (omega arith)))
+
+-- what is asked of atom j: is it in the right entry's set R, then some left entry lies below it
+unfoldable pub LineAsk : List ℕ → Assignment → ℕ → ℕ → ℕ → Bool
+LineAsk s a n R j = not (bit j R) || leftTest sameRole (tableOf s) a (lineAt (tableOf s .lines) n .left) j
+
+module _ (s : List ℕ) (a : Assignment) (n R j : ℕ) where
+  pub line-off : bit j R ≡ false → LineAsk s a n R j ≡ true
+  unfolding LineAsk
+  line-off e = rw e
+
+  pub line-true : leftTest sameRole (tableOf s) a (lineAt (tableOf s .lines) n .left) j ≡ true → LineAsk s a n R j ≡ true
+  unfolding LineAsk
+  line-true e = rw e (or-yes (not (bit j R)))
+
+  pub line-false : bit j R ≡ true → leftTest sameRole (tableOf s) a (lineAt (tableOf s .lines) n .left) j ≡ false → LineAsk s a n R j ≡ false
+  unfolding LineAsk
+  line-false e f = rw (e, f)
+
+  pub line-rest : (m : ℕ) → allBelow j (LineAsk s a n R) ≡ true → R / 2 ^ j ≡ 0 → allBelow m (LineAsk s a n R) ≡ true
+  unfolding LineAsk
+  line-rest m before z = allBelow-every m (LineAsk s a n R) (λ i h. go i (decLt i j))
+    where
+      go : (i : ℕ) → Dec (i < j) → LineAsk s a n R i ≡ true
+      go i (yes l) = allBelow-true-at j i (LineAsk s a n R) before l
+      go i (no l) = rw (rest-none R j i z (omega arith))
+
+line-declared : (t : Table) → T (declared t) → (n : ℕ) → n < length (t .lines) → T (lineDeclared t (lineAt (t .lines) n))
+unfolding declared lineAt
+line-declared t u n h = everyOf-at (lineDeclared t) (t .lines) n (record { left = []; right = constant 0 }) (and-right (everyOf (rowDeclared t) (t .rows)) (everyOf (lineDeclared t) (t .lines)) u) h
+
+pub line-atoms : (s : List ℕ) (a : Assignment) (c e : ℕ) → Given s a c e → T (acyclic (tableOf s) a)
+    → (n at : ℕ) → n < byteAt s 9 → at ≡ lineStart s n → (p : ℕ) → p ≡ byteAt s at → (R : ℕ) → R ≡ entrySet (tableOf s) a (entryFrom (byteAt s (at + 1 + p)))
+    → holds sameRole (tableOf s .rows) (induced (tableOf s) a) (lineAt (tableOf s .lines) n) ≡ allBelow (c + e) (LineAsk s a n R)
+unfolding LineAsk
+line-atoms s a c e g calm n at few begins p many R set =
+    sym (line-rule sameRole (tableOf s) (l .all-declared) a calm (lineAt (tableOf s .lines) n) (line-declared (tableOf s) (l .all-declared) n (subst (λ (k : ℕ). n < k) (sym (l .lines)) few)))
+    ∙ opened (lineAt (tableOf s .lines) n)
+    ∙ ap₂ (λ (k S : ℕ). allBelow k (λ j. not (bit j S) || leftTest sameRole (tableOf s) a (lineAt (tableOf s .lines) n .left) j)) (atom-count s a c e g) (sym right)
+  where
+    l : Layout s (tableOf s)
+    l = layout s (g .readable)
+
+    opened : (x : Line) → lineTest sameRole (tableOf s) a x ≡ allBelow (atoms (tableOf s)) (λ j. not (bit j (entrySet (tableOf s) a (x .right))) || leftTest sameRole (tableOf s) a (x .left) j)
+    opened x = unfold lineTest in refl
+
+    right : R ≡ entrySet (tableOf s) a (lineAt (tableOf s .lines) n .right)
+    right = set ∙ ap (entrySet (tableOf s) a) (ap (λ (k : ℕ). entryFrom (byteAt s (at + 1 + k))) many ∙ right-from s (g .readable) n at few begins)

@@ -1,0 +1,74 @@
+-- What the line test is given, in bytes and set numbers, and what it answers.
+--
+--   fillerFrom b, entryFrom b  == the filler, the entry that the code b writes, declared or not
+--   IsFiller s b, IsEntry s b  == the code b writes a filler, an entry that the table s declares
+--   Given s a c e              == s is a readable table with c constants and e restrictions, a has a set for each variable
+--   LineGiven s a c e v n at   == s is a readable table with the counts c, e and v, a is acyclic, line n begins at the byte `at`
+--   setBelow s a k S j         == the conjunction of the set S lies below atom j, where k dependences are left
+--   fillerBelow s a k f g      == the filler of the code f lies below the filler of the code g, where k dependences are left
+use mathlib.Core.Path.{_≡_}
+use mathlib.Core.Bool.{Bool}
+use mathlib.Core.List.{List}
+use mathlib.Core.Option.{some}
+use Prim.Native.Nat.{ℕ, _+_, _*_, _≤_, _<_}
+use lib.Dec.{T}
+use lib.ListN.{length}
+use Rattle.el.specs.Description.{sameRole}
+use Rattle.el.specs.Table.{Filler, topF, constantF, variableF, Entry, constant, restriction, variable}
+use Rattle.el.specs.Assignment.{Assignment, acyclic}
+use Rattle.table.specs.declared.Kind.{Kind}
+use Rattle.table.specs.declared.Kind.the-variants.{Top, Constant, Restriction, Variable, Other}
+use Rattle.table.specs.Code.{kindOf, fillerOf, entryOf}
+use Rattle.table.specs.Reading.{byteAt, maxAtoms, maxVariables, reading, isReadable, tableOf}
+use Rattle.table.specs.Layout.{lineStart}
+use Rattle.order.specs.Rule.{setTest, fillerTest}
+
+abbrev pub fillerFromKind : Kind → Filler
+fillerFromKind Top = topF
+fillerFromKind (Constant k) = constantF k
+fillerFromKind (Restriction k) = topF
+fillerFromKind (Variable k) = variableF k
+fillerFromKind Other = topF
+
+unfoldable pub fillerFrom : ℕ → Filler
+fillerFrom b = fillerFromKind (kindOf b)
+
+abbrev pub entryFromKind : Kind → Entry
+entryFromKind Top = constant 0
+entryFromKind (Constant k) = constant k
+entryFromKind (Restriction k) = restriction k
+entryFromKind (Variable k) = variable k
+entryFromKind Other = constant 0
+
+unfoldable pub entryFrom : ℕ → Entry
+entryFrom b = entryFromKind (kindOf b)
+
+unfoldable pub IsFiller : List ℕ → ℕ → Type 0
+IsFiller s b = fillerOf (byteAt s 5) (byteAt s 7) b ≡ some (fillerFrom b)
+
+unfoldable pub IsEntry : List ℕ → ℕ → Type 0
+IsEntry s b = entryOf (byteAt s 5) (byteAt s 8) (byteAt s 7) b ≡ some (entryFrom b)
+
+pub record Given (s : List ℕ) (a : Assignment) (c e : ℕ) : Type 0 where
+  pub readable : T (isReadable (reading s))
+  pub constants : c ≡ byteAt s 5
+  pub restrictions : e ≡ byteAt s 8
+  pub few-atoms : c + e ≤ maxAtoms
+  pub rows-in : 10 + 2 * e ≤ length s
+  pub sets : length a ≡ maxVariables
+
+pub record LineGiven (s : List ℕ) (a : Assignment) (c e v n at : ℕ) : Type 0 where
+  pub readable : T (isReadable (reading s))
+  pub constants : c ≡ byteAt s 5
+  pub restrictions : e ≡ byteAt s 8
+  pub variables : v ≡ byteAt s 7
+  pub sets : length a ≡ maxVariables
+  pub acyclic : T (acyclic (tableOf s) a)
+  pub line : n < byteAt s 9
+  pub begins : at ≡ lineStart s n
+
+unfoldable pub setBelow : List ℕ → Assignment → ℕ → ℕ → ℕ → Bool
+setBelow s a k S j = setTest sameRole (tableOf s) (fillerTest sameRole (tableOf s) a k) S j
+
+unfoldable pub fillerBelow : List ℕ → Assignment → ℕ → ℕ → ℕ → Bool
+fillerBelow s a k f g = fillerTest sameRole (tableOf s) a k (fillerFrom f) (fillerFrom g)

@@ -1,0 +1,3 @@
+pub mod Rule
+pub mod RuleLaws
+pub mod Given

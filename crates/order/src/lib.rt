@@ -1,0 +1,199 @@
+// The test of one line at a node.
+//
+// Given are a readable table, its counts c, e and v, and the set number of each variable. The two questions ask each
+// other: whether a conjunction, given as a set number, lies below one atom, and whether one filler lies below another.
+// Each time the second asks the first, one dependence less is left.
+use table::Kind;
+ghost use mathlib.Core.Path.{_≡_};
+ghost use Prim.Native.Nat.{_+_, _<_};
+ghost use Rattle.el.specs.Description.{sameRole};
+ghost use Rattle.el.specs.Test.{bit};
+ghost use Rattle.el.specs.Assignment.{induced};
+ghost use Rattle.el.specs.Meaning.{holds};
+ghost use Rattle.table.specs.Reading.{byteAt, tableOf};
+ghost use Rattle.table.specs.Layout.{lineAt, lineStart};
+ghost use Rattle.order.specs.Rule.{isConstant, flatTest, fillerSet, entrySet, leftTest};
+ghost use Rattle.order.specs.Given.{fillerFrom, entryFrom, IsFiller, IsEntry, Given, LineGiven, setBelow, fillerBelow};
+
+// Where the restriction rows begin.
+const ROWS: usize = table::HEADER;
+
+fn wide(x: u8) -> usize
+    ensures { λ r. ⌜ r ≡ x ⌝ }
+{
+    x as usize
+}
+
+// Bit i of the set number s.
+pub fn bit_of(s: u32, i: usize) -> bool
+    requires { ⌜ i < 32 ⌝ }
+    ensures { λ r. ⌜ r ≡ bit i s ⌝ }
+{
+    (s >> i) % 2 == 1
+}
+
+// The set of a filler: top has no conjunct, a constant is one.
+fn filler_set(table: &[u8], set: &[u32], c: usize, e: usize, f: u8) -> u32
+    requires { ⌜ Given (now table) (now set) c e × IsFiller (now table) f ⌝ }
+    ensures { λ r. ⌜ r ≡ fillerSet (now (set .entry)) (fillerFrom f) ⌝ }
+{
+    match table::kind_of(f) {
+        Kind::Top => 0,
+        Kind::Constant(k) => 1u32 << wide(k),
+        Kind::Restriction(_) => 0,
+        Kind::Variable(x) => set[wide(x)],
+        Kind::Other => 0,
+    }
+}
+
+// The set of an entry of a line: a constant and a restriction are one atom.
+fn entry_set(table: &[u8], set: &[u32], c: usize, e: usize, x: u8) -> u32
+    requires { ⌜ Given (now table) (now set) c e × IsEntry (now table) x ⌝ }
+    ensures { λ r. ⌜ r ≡ entrySet (tableOf (now (table .entry))) (now (set .entry)) (entryFrom x) ⌝ }
+{
+    match table::kind_of(x) {
+        Kind::Top => 1,
+        Kind::Constant(k) => 1u32 << wide(k),
+        Kind::Restriction(k) => 1u32 << (c + wide(k)),
+        Kind::Variable(y) => set[wide(y)],
+        Kind::Other => 1,
+    }
+}
+
+// The filler f is constant k.
+fn is_constant(f: u8, k: u8) -> bool
+    ensures { λ r. ⌜ r ≡ isConstant k (fillerFrom f) ⌝ }
+{
+    match table::kind_of(f) {
+        Kind::Top => false,
+        Kind::Constant(i) => i == k,
+        Kind::Restriction(_) => false,
+        Kind::Variable(_) => false,
+        Kind::Other => false,
+    }
+}
+
+// Filler f lies below filler g where no dependence is left: each variable stands for top.
+fn flat_below(f: u8, g: u8) -> bool
+    ensures { λ r. ⌜ r ≡ flatTest (fillerFrom f) (fillerFrom g) ⌝ }
+{
+    match table::kind_of(g) {
+        Kind::Top => true,
+        Kind::Constant(k) => is_constant(f, k),
+        Kind::Restriction(_) => true,
+        Kind::Variable(_) => true,
+        Kind::Other => true,
+    }
+}
+
+// The conjunction of the set s lies below atom j: one of its atoms does.
+fn set_below(table: &[u8], set: &[u32], c: usize, e: usize, s: u32, j: usize, depth: usize) -> bool
+    requires { ⌜ Given (now table) (now set) c e × (j < c + e) ⌝ }
+    ensures { λ r. ⌜ r ≡ setBelow (now (table .entry)) (now (set .entry)) depth s j ⌝ }
+{
+    if j < c {
+        return bit_of(s, j);
+    }
+    let at = ROWS + 2 * (j - c);
+    let role = table[at];
+    let filler = table[at + 1];
+    let mut k = 0;
+    while k < e {
+        let rest = s >> (c + k);
+        if rest == 0 {
+            return false;
+        }
+        if rest % 2 == 1 {
+            if table[ROWS + 2 * k] == role {
+                if filler_below(table, set, c, e, table[ROWS + 1 + 2 * k], filler, depth) {
+                    return true;
+                }
+            }
+        }
+        k += 1;
+    }
+    false
+}
+
+// Filler f lies below filler g: the conjunction of f's set lies below each atom of g's.
+fn filler_below(table: &[u8], set: &[u32], c: usize, e: usize, f: u8, g: u8, depth: usize) -> bool
+    requires { ⌜ Given (now table) (now set) c e × IsFiller (now table) f × IsFiller (now table) g ⌝ }
+    ensures { λ r. ⌜ r ≡ fillerBelow (now (table .entry)) (now (set .entry)) depth f g ⌝ }
+{
+    if depth == 0 {
+        return flat_below(f, g);
+    }
+    let left = filler_set(table, set, c, e, f);
+    let right = filler_set(table, set, c, e, g);
+    let mut j = 0;
+    while j < c + e {
+        let rest = right >> j;
+        if rest == 0 {
+            return true;
+        }
+        if rest % 2 == 1 {
+            if !set_below(table, set, c, e, left, j, depth - 1) {
+                return false;
+            }
+        }
+        j += 1;
+    }
+    true
+}
+
+// Some left entry of line n, which begins at the byte `at`, lies below atom j.
+fn left_below(
+    table: &[u8],
+    set: &[u32],
+    c: usize,
+    e: usize,
+    v: usize,
+    n: usize,
+    at: usize,
+    j: usize,
+) -> bool
+    requires { ⌜ Given (now table) (now set) c e × (v ≡ byteAt (now table) 7) × (n < byteAt (now table) 9) × (at ≡ lineStart (now table) n) × (j < c + e) ⌝ }
+    ensures { λ r. ⌜ r ≡ leftTest sameRole (tableOf (now (table .entry))) (now (set .entry)) (lineAt (tableOf (now (table .entry)) .lines) n .left) j ⌝ }
+{
+    let p = wide(table[at]);
+    let mut i = 0;
+    while i < p {
+        let s = entry_set(table, set, c, e, table[at + 1 + i]);
+        if set_below(table, set, c, e, s, j, v) {
+            return true;
+        }
+        i += 1;
+    }
+    false
+}
+
+// Line n, which begins at the byte `at`, holds under the substitution that the sets induce.
+pub fn line_holds(
+    table: &[u8],
+    set: &[u32],
+    c: usize,
+    e: usize,
+    v: usize,
+    n: usize,
+    at: usize,
+) -> bool
+    requires { ⌜ LineGiven (now table) (now set) c e v n at ⌝ }
+    ensures { λ r. ⌜ r ≡ holds sameRole (tableOf (now (table .entry)) .rows) (induced (tableOf (now (table .entry))) (now (set .entry))) (lineAt (tableOf (now (table .entry)) .lines) n) ⌝ }
+{
+    let p = wide(table[at]);
+    let right = entry_set(table, set, c, e, table[at + 1 + p]);
+    let mut j = 0;
+    while j < c + e {
+        let rest = right >> j;
+        if rest == 0 {
+            return true;
+        }
+        if rest % 2 == 1 {
+            if !left_below(table, set, c, e, v, n, at, j) {
+                return false;
+            }
+        }
+        j += 1;
+    }
+    true
+}

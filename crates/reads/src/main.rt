@@ -1,0 +1,258 @@
+// Reads many tables and prints what the public calls answer: for the reader a line with number, place and the five counts,
+// for the line call a line with the length of the part and its bytes. Each group has a title.
+ghost use mathlib.Core.Path.{_≡_};
+ghost use Prim.Native.Nat.{_≤_, _<_};
+use libc::STDOUT_FILENO;
+
+// 3 constants, 2 roles, 2 variables, 2 restrictions and 2 lines: byte 13 is a filler, byte 15 a left entry, byte 17 a right one.
+const PLAIN: [u8; 21] = [
+    0x56,
+    0x4F,
+    0x43,
+    1,
+    0,
+    3,
+    2,
+    2,
+    2,
+    2,
+    1,
+    0x00,
+    0,
+    0x61,
+    2,
+    0x20,
+    0x41,
+    0x60,
+    1,
+    0x61,
+    0x22,
+];
+
+fn say(text: &[u8]) {
+    io::write_all(STDOUT_FILENO, text);
+}
+
+fn spaced(n: u64) {
+    say(b" ");
+    io::print_decimal(STDOUT_FILENO, n);
+}
+
+fn show(table: &[u8]) {
+    let a = makrothel::read(table);
+    io::print_decimal(STDOUT_FILENO, a.number as u64);
+    spaced(a.place as u64);
+    spaced(a.constants as u64);
+    spaced(a.roles as u64);
+    spaced(a.variables as u64);
+    spaced(a.restrictions as u64);
+    spaced(a.lines as u64);
+    say(b"\n");
+}
+
+fn wide(x: u8) -> u64 {
+    x as u64
+}
+
+fn show_line(table: &[u8], n: u32) {
+    let part = makrothel::line(table, n);
+    io::print_decimal(STDOUT_FILENO, part.len() as u64);
+    let mut i = 0;
+    while i < part.len() {
+        spaced(wide(part[i]));
+        i += 1;
+    }
+    say(b"\n");
+}
+
+// Every beginning of the table, the empty one first and the whole last.
+fn show_truncations(table: &[u8]) {
+    let mut n = 0;
+    while n < table.len() {
+        show(&table[0..n]);
+        n += 1;
+    }
+    show(table);
+}
+
+// The plain table with each of the 256 values at the byte `at`.
+fn show_codes(at: usize)
+    requires { ⌜ at < 21 ⌝ }
+{
+    let mut table = PLAIN;
+    let mut code: u8 = 0;
+    while code < 255 {
+        table[at] = code;
+        show(&table);
+        code += 1;
+    }
+    table[at] = code;
+    show(&table);
+}
+
+fn with_header(table: [u8; 699], c: u8, r: u8, v: u8, e: u8, m: u8) -> [u8; 699] {
+    let mut t = table;
+    t[0] = 0x56;
+    t[1] = 0x4F;
+    t[2] = 0x43;
+    t[3] = 1;
+    t[4] = 0;
+    t[5] = c;
+    t[6] = r;
+    t[7] = v;
+    t[8] = e;
+    t[9] = m;
+    t
+}
+
+// The value at every `step`th byte from `from` up to `end`.
+fn filled(table: [u8; 699], from: usize, end: usize, step: usize, value: u8) -> [u8; 699]
+    requires { ⌜ (end ≤ 699) × (0 < step) × (step ≤ 10) ⌝ }
+{
+    let mut t = table;
+    let mut at = from;
+    while at < end {
+        t[at] = value;
+        at += step;
+    }
+    t
+}
+
+// The first n bytes, read.
+fn show_first(table: [u8; 699], n: usize)
+    requires { ⌜ n ≤ 699 ⌝ }
+{
+    show(&table[0..n]);
+}
+
+// Line k of the first n bytes.
+fn show_line_of_first(table: [u8; 699], n: usize, k: u32)
+    requires { ⌜ n ≤ 699 ⌝ }
+{
+    show_line(&table[0..n], k);
+}
+
+fn show_header(c: u8, r: u8, v: u8, e: u8, m: u8) {
+    let base = [0u8; 699];
+    let t = with_header(base, c, r, v, e, m);
+    show_first(t, 10);
+}
+
+// m lines, each "top below constant 0".
+fn show_many_lines(m: u8, end: usize)
+    requires { ⌜ end ≤ 699 ⌝ }
+{
+    let base = [0x20u8; 699];
+    let t = with_header(base, 1, 0, 0, 0, m);
+    let t = filled(t, 10, end, 2, 0);
+    show_first(t, end);
+}
+
+// One line with the left count p.
+fn show_left_count(p: u8, end: usize)
+    requires { ⌜ end ≤ 699 ⌝ }
+{
+    let base = [0x20u8; 699];
+    let t = with_header(base, 1, 0, 0, 0, 1);
+    let t = filled(t, 10, 11, 1, p);
+    show_first(t, end);
+}
+
+// 24 rows and 64 lines with 8 left entries each, and one byte more.
+fn longest() -> [u8; 699] {
+    let base = [0x40u8; 699];
+    let t = with_header(base, 0, 16, 12, 24, 64);
+    let t = filled(t, 10, 58, 1, 0);
+    filled(t, 58, 698, 10, 8)
+}
+
+fn show_order() {
+    say(b"nine bytes with a wrong mark\n");
+    show(b"\x00\x00\x00\x00\x00\x00\x00\x00\x00");
+    say(b"mark and version wrong\n");
+    show(b"VOK\x02\x00\x19\x11\x0D\x19\x41");
+    say(b"version low byte, high byte\n");
+    show(b"VOC\x02\x00\x19\x11\x0D\x19\x41");
+    show(b"VOC\x01\x01\x19\x11\x0D\x19\x41");
+    say(b"c 25 alone; with r 17; with v 13; with m 65; c 255 and e 1\n");
+    show_header(25, 0, 0, 0, 0);
+    show_header(25, 17, 0, 0, 0);
+    show_header(25, 0, 13, 0, 0);
+    show_header(25, 0, 0, 0, 65);
+    show_header(255, 0, 0, 1, 0);
+    say(b"a role not declared, and no filler; a role, and no filler\n");
+    show(b"VOC\x01\x00\x00\x00\x00\x01\x00\x00");
+    show(b"VOC\x01\x00\x00\x01\x00\x01\x00\x00");
+    say(b"a restriction as its own filler\n");
+    show(b"VOC\x01\x00\x00\x01\x00\x01\x00\x00\x40");
+    say(b"a left count of 255 at the end\n");
+    show(b"VOC\x01\x00\x01\x00\x00\x00\x01\xFF");
+    say(b"a left count of 9 before a code not declared\n");
+    show(b"VOC\x01\x00\x01\x00\x00\x00\x01\x09\xFF");
+    say(b"a bad second entry, and the rest missing\n");
+    show(b"VOC\x01\x00\x01\x00\x00\x00\x01\x03\x20\x21");
+    say(b"top as a left entry, as a right one\n");
+    show(b"VOC\x01\x00\x01\x00\x00\x00\x01\x01\x00\x20");
+    show(b"VOC\x01\x00\x01\x00\x00\x00\x01\x00\x00");
+    say(b"a bad right entry and bytes after it; bytes after the last line\n");
+    show(b"VOC\x01\x00\x01\x00\x00\x00\x01\x00\x21\x00\x00");
+    show(b"VOC\x01\x00\x01\x00\x00\x00\x01\x00\x20\x00\x00");
+}
+
+fn show_bounds() {
+    say(b"no counts\n");
+    show_header(0, 0, 0, 0, 0);
+    say(b"c 24 with e 0, with e 1\n");
+    show_header(24, 0, 0, 0, 0);
+    show_header(24, 0, 0, 1, 0);
+    say(b"r 16, r 17\n");
+    show_header(0, 16, 0, 0, 0);
+    show_header(0, 17, 0, 0, 0);
+    say(b"v 12, v 13\n");
+    show_header(0, 0, 12, 0, 0);
+    show_header(0, 0, 13, 0, 0);
+    say(b"m 64, m 65\n");
+    show_many_lines(64, 138);
+    show_many_lines(65, 140);
+    say(b"p 8, p 9\n");
+    show_left_count(8, 20);
+    show_left_count(9, 21);
+    say(b"the longest table, a byte less, a byte more\n");
+    let t = longest();
+    show_first(t, 698);
+    show_first(t, 697);
+    show_first(t, 699);
+}
+
+fn show_lines() {
+    let plain = PLAIN;
+    say(b"lines 0, m - 1, m and the last number\n");
+    show_line(&plain, 0);
+    show_line(&plain, 1);
+    show_line(&plain, 2);
+    show_line(&plain, 4294967295);
+    say(b"line 0 of a table that ends early, of an empty one, and of one with a byte more\n");
+    show_line(&plain[..20], 0);
+    show_line(&plain[..0], 0);
+    show_line(b"VOC\x01\x00\x01\x00\x00\x00\x01\x00\x20\x00", 0);
+    say(b"lines 63 and 64 of the longest table, and line 63 with a byte more\n");
+    let t = longest();
+    show_line_of_first(t, 698, 63);
+    show_line_of_first(t, 698, 64);
+    show_line_of_first(t, 699, 63);
+}
+
+fn main() {
+    say(b"each truncation\n");
+    let plain = PLAIN;
+    show_truncations(&plain);
+    say(b"each filler code\n");
+    show_codes(13);
+    say(b"each left code\n");
+    show_codes(15);
+    say(b"each right code\n");
+    show_codes(17);
+    show_order();
+    show_bounds();
+    show_lines();
+}

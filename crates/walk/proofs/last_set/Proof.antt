@@ -1,0 +1,30 @@
+-- `walk::last_set` meets its contract: the power fits.
+use mathlib.Core.Path.{_≡_}
+use Prim.Native.Nat.{_<_, _^_}
+use native.Mathlib.Omega.{arith}
+use lib.Pow.{pow-pos}
+use Rattle.walk.proofs.Laws.{power-fits}
+use borrow.Author.Needs.{needs}
+use Rattle.walk.proofs.last_set.Statement.{statement}
+use Rattle.walk.proofs.last_set.Tie as tie
+use Rattle.walk.proofs.last_set.Reads as reads
+use Rattle.walk.proofs.last_set.Lts as lts
+
+-- src/lib.rt:156:14
+cast-result : tie.Need-cast-result
+cast-result c = search needs
+
+-- src/lib.rt:156:6
+shl-result : tie.Need-shl-result
+shl-result c = search needs
+
+-- src/lib.rt:156:5
+sub-result : tie.Need-sub-result
+sub-result c = rw (power-fits (c .args .n) (omega arith)) (pow-pos (c .args .n))
+
+-- src/lib.rt:152:1
+returns : tie.Need-returns
+returns c = rw (power-fits (c .args .n) (omega arith)) (let h : 0 < 2 ^ c .args .n = pow-pos (c .args .n) in omega arith)
+
+pub last-set-spec : {M : Type 1} → statement M
+last-set-spec = tie.close (tie.spec cast-result shl-result sub-result returns)

@@ -1,0 +1,259 @@
+/* families NAME: writes a stream of solve questions on standard output, made
+   from fixed seeds: tables that need long walks.
+
+     chains     variables that depend on each other in chains and towers
+     constants  many constants, one or two variables
+     variables  many variables, few atoms
+     lines      many lines with long left sides
+     none       no solution, found only at the end of a long walk
+
+   families NAME short: the same tables with small budgets. */
+
+#include "../second/draft.h"
+#include "../second/stream.h"
+
+static struct chance chance;
+static u32 most = 0xFFFFFFFF; /* no budget is larger */
+
+static void ask(const struct draft *draft, u32 budget)
+{
+    static struct question question;
+    question.kind = KIND_SOLVE;
+    question.number = budget < most ? budget : most;
+    question.room = 4 * draft->v;
+    question.length = write_draft(draft, question.table);
+    put_question(&question);
+}
+
+static u8 variable(u32 x)
+{
+    return (u8)(CODE_VARIABLE + x);
+}
+
+/* The line: variable x below the code. */
+static void below_code(struct draft *draft, u32 x, u32 right)
+{
+    u8 left = variable(x);
+    add_line(draft, 1, &left, right);
+}
+
+/* ---- chains */
+
+/* X0 below r X1, X1 below r X2, and so on; the last below the constant. The
+   chain is known to hold only when all of it is chosen. */
+static void chain_up(u32 v, u32 roles, u32 more_constants, u32 budget)
+{
+    struct draft draft;
+    draft_start(&draft, 1 + more_constants, roles, v);
+    for (u32 x = 0; x + 1 < v; x++) {
+        add_row(&draft, below_bound(&chance, roles), variable(x + 1));
+        below_code(&draft, x, CODE_RESTRICTION + x);
+    }
+    below_code(&draft, v - 1, CODE_CONSTANT + more_constants);
+    ask(&draft, budget);
+}
+
+/* Two towers on variables 0 and 1, and lines that compare their tops. */
+static void two_towers(u32 height, u32 constants, u32 budget)
+{
+    struct draft draft;
+    draft_start(&draft, constants, 1, 2 * height);
+    below_code(&draft, 0, CODE_CONSTANT);
+    below_code(&draft, 1, CODE_CONSTANT + constants - 1);
+    for (u32 x = 0; x + 2 < 2 * height; x++) {
+        add_row(&draft, 0, variable(x));
+        below_code(&draft, x + 2, CODE_RESTRICTION + x);
+    }
+    below_code(&draft, 2 * height - 1, CODE_RESTRICTION + 2 * height - 4);
+    below_code(&draft, 2 * height - 2, variable(2 * height - 1));
+    ask(&draft, budget);
+}
+
+static void chains(void)
+{
+    chain_up(4, 1, 0, 10000000);
+    chain_up(4, 2, 1, 10000000);
+    chain_up(5, 1, 0, 10000000);
+    chain_up(5, 2, 0, 10000000);
+    chain_up(6, 1, 0, 8000000);
+    for (u32 height = 3; height < 7; height++) {
+        two_towers(height, 2, 3000000);
+        two_towers(height, 1, 3000000);
+    }
+}
+
+/* ---- constants */
+
+static void constants_of_one(u32 c, u32 lines)
+{
+    struct draft draft;
+    draft_start(&draft, c, 0, 1);
+    below_code(&draft, 0, CODE_CONSTANT + c - 1);
+    for (u32 i = 0; i < lines; i++) {
+        below_code(&draft, 0, CODE_CONSTANT + below_bound(&chance, c));
+    }
+    ask(&draft, 0xFFFFFFFF);
+}
+
+static void constants_of_two(u32 c)
+{
+    struct draft draft;
+    u8 both[2] = { variable(0), variable(1) };
+    draft_start(&draft, c, 0, 2);
+    add_line(&draft, 2, both, CODE_CONSTANT + c - 1);
+    add_line(&draft, 2, both, CODE_CONSTANT + c / 2);
+    below_code(&draft, 0, variable(1));
+    below_code(&draft, 1, CODE_CONSTANT + c - 2);
+    ask(&draft, 0xFFFFFFFF);
+}
+
+static void constants(void)
+{
+    for (u32 c = 16; c < 25; c++) {
+        constants_of_one(c, c - 14);
+    }
+    for (u32 c = 8; c < 13; c++) {
+        constants_of_two(c);
+    }
+}
+
+/* ---- variables */
+
+/* Lines from the early variables to the late ones. */
+static void far_lines(u32 v, u32 c, u32 rows, u32 lines)
+{
+    struct draft draft;
+    draft_start(&draft, c, 1, v);
+    add_random_rows(&chance, &draft, rows);
+    below_code(&draft, v - 1, CODE_CONSTANT + c - 1);
+    for (u32 i = 0; i < lines; i++) {
+        u8 left[2] = { variable(below_bound(&chance, v / 2)),
+                       variable(v / 2 + below_bound(&chance, v - v / 2)) };
+        add_line(&draft, 1 + below_bound(&chance, 2), left, i % 2 ? random_entry(&chance, &draft) : variable(v - 1));
+    }
+    ask(&draft, 2000000);
+}
+
+static void variables(void)
+{
+    for (u32 i = 0; i < 24; i++) {
+        far_lines(8 + i % 5, 1 + i % 2, 1, 2 + i % 6);
+    }
+}
+
+/* ---- lines */
+
+/* Lines that hold under any sets, and after them two that do not. */
+static void many_lines(u32 c, u32 rows, u32 v)
+{
+    struct draft draft;
+    draft_start(&draft, c, 2, v);
+    add_random_rows(&chance, &draft, rows);
+    add_easy_lines(&chance, &draft, 62, 4, 8);
+    below_code(&draft, 0, CODE_RESTRICTION + rows - 1);
+    below_code(&draft, v - 1, CODE_RESTRICTION + rows - 2);
+    ask(&draft, 1500000);
+}
+
+static void lines(void)
+{
+    for (u32 i = 0; i < 24; i++) {
+        many_lines(2 + i % 4, 5 + i % 5, 1 + i % 4);
+    }
+}
+
+/* ---- none */
+
+/* Each variable below a restriction on the next one, around a ring. */
+static void ring(u32 v, u32 more_constants)
+{
+    struct draft draft;
+    draft_start(&draft, more_constants, 1, v);
+    for (u32 x = 0; x < v; x++) {
+        add_row(&draft, 0, variable((x + 1) % v));
+        below_code(&draft, x, CODE_RESTRICTION + x);
+    }
+    ask(&draft, 0xFFFFFFFF);
+}
+
+/* The last variable is below A and B, and r A and r B are below r of it. */
+static void torn(u32 v, u32 rows)
+{
+    struct draft draft;
+    u8 left[2] = { CODE_RESTRICTION, CODE_RESTRICTION + 1 };
+    draft_start(&draft, 2, 1, v);
+    add_row(&draft, 0, CODE_CONSTANT);
+    add_row(&draft, 0, CODE_CONSTANT + 1);
+    add_row(&draft, 0, variable(v - 1));
+    add_random_rows(&chance, &draft, rows);
+    below_code(&draft, v - 1, CODE_CONSTANT);
+    below_code(&draft, v - 1, CODE_CONSTANT + 1);
+    add_line(&draft, 2, left, CODE_RESTRICTION + 2);
+    ask(&draft, 0xFFFFFFFF);
+}
+
+/* A chain up to a variable that is below A, and that B is below. */
+static void torn_chain(u32 v, u32 constants)
+{
+    struct draft draft;
+    u8 left = CODE_CONSTANT + 1;
+    draft_start(&draft, constants, 1, v);
+    for (u32 x = 0; x + 1 < v; x++) {
+        add_row(&draft, 0, variable(x + 1));
+        below_code(&draft, x, CODE_RESTRICTION + x);
+    }
+    below_code(&draft, v - 1, CODE_CONSTANT);
+    add_line(&draft, 1, &left, variable(v - 1));
+    ask(&draft, 0xFFFFFFFF);
+}
+
+static void none(void)
+{
+    for (u32 c = 5; c < 11; c++) {
+        ring(2, c);
+    }
+    ring(3, 2);
+    ring(3, 3);
+    ring(3, 4);
+    torn(1, 17);
+    torn(2, 5);
+    torn(2, 6);
+    torn(3, 1);
+    torn(3, 2);
+    torn(4, 0);
+    torn_chain(3, 4);
+    torn_chain(4, 2);
+    torn_chain(4, 3);
+    torn_chain(4, 4);
+}
+
+/* ---- */
+
+struct family {
+    const char *name;
+    u64 seed;
+    void (*ask)(void);
+};
+
+static const struct family families[] = {
+    { "chains", 1, chains },       { "constants", 2, constants }, { "variables", 3, variables },
+    { "lines", 4, lines },         { "none", 5, none },
+};
+
+int main(int words, char **word)
+{
+    if (words == 3 && strcmp(word[2], "short") == 0) {
+        most = 5000;
+    } else if (words != 2) {
+        fail("usage: families NAME [short]");
+    }
+    for (u32 i = 0; i < sizeof families / sizeof families[0]; i++) {
+        if (strcmp(word[1], families[i].name) == 0) {
+            chance.state = families[i].seed;
+            families[i].ask();
+            flush();
+            return 0;
+        }
+    }
+    fail("families: no family of this name");
+}

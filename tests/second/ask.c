@@ -1,0 +1,499 @@
+/* ask SEED COUNT [WALK]: writes a stream of COUNT questions, or some more, on
+   standard output: the same for the same seed. There are tables that are
+   solved, that have no solution and that go over the budget; bounds and codes
+   at and beyond their limits; and tables damaged, cut short and made too long.
+   It asks the second solver for N, so that few walks are longer than WALK.
+
+   ask stats SEED COUNT [WALK]: says instead how often each kind of question and
+   each number is in that stream. */
+
+#include "second.h"
+#include "stream.h"
+#include "tables.h"
+
+/* Enough for any table with 4 atoms and 3 variables. */
+enum { USUAL_WALK = 4500 };
+
+static const u32 largest = 0xFFFFFFFF;
+
+static struct chance chance;
+static u32 walk = USUAL_WALK;
+
+/* ---- What has been asked */
+
+static u64 asked;
+static int only_stats;
+
+static struct {
+    u64 solve[10], read[7], lines, empty_parts, nodes, longest;
+} stats;
+
+static void count_solve(const struct question *question)
+{
+    u8 output[MOST_OUTPUT];
+    u32 room = question->room > MOST_OUTPUT ? MOST_OUTPUT : question->room;
+    struct answer answer = second_solve(question->table, question->length, question->number,
+                                        output, room);
+    stats.solve[answer.number]++;
+    stats.nodes += answer.count;
+    stats.longest = answer.count > stats.longest ? answer.count : stats.longest;
+}
+
+static void count_question(const struct question *question)
+{
+    switch (question->kind) {
+    case KIND_READ:
+        stats.read[second_read(question->table, question->length).number]++;
+        break;
+    case KIND_LINE:
+        stats.lines++;
+        stats.empty_parts += second_line(question->table, question->length, question->number).length == 0;
+        break;
+    default:
+        count_solve(question);
+        break;
+    }
+}
+
+static void put_count(const char *before, u64 count, const char *after)
+{
+    put_text(before);
+    put_number(count);
+    put_text(after);
+}
+
+static void put_histogram(const char *name, const u64 *counts, u32 length)
+{
+    u64 all = 0;
+    for (u32 i = 0; i < length; i++) {
+        all += counts[i];
+    }
+    put_text(name);
+    put_count(" questions: ", all, "\n");
+    for (u32 i = 0; i < length && all > 0; i++) {
+        u64 tenths = counts[i] * 1000 / all;
+        put_count("  number ", i, ": ");
+        put_count("", counts[i], ", ");
+        put_count("", tenths / 10, ".");
+        put_count("", tenths % 10, " percent\n");
+    }
+}
+
+static void put_stats(void)
+{
+    put_histogram("solve", stats.solve, 10);
+    put_count("  nodes: ", stats.nodes, ", ");
+    put_count("longest walk: ", stats.longest, "\n");
+    put_histogram("read", stats.read, 7);
+    put_count("line questions: ", stats.lines, ", ");
+    put_count("with an empty part: ", stats.empty_parts, "\n");
+}
+
+static void ask(const struct question *question)
+{
+    asked++;
+    if (only_stats) {
+        count_question(question);
+    } else {
+        put_question(question);
+    }
+}
+
+/* ---- One question about a table */
+
+/* A budget for a table that is answered with N nodes: often close to N. */
+static u32 budget_near(u32 n)
+{
+    switch (below_bound(&chance, 12)) {
+    case 0: case 1: return n - 1;
+    case 2: case 3: case 4: return n;
+    case 5: return n + 1;
+    case 6: return largest;
+    case 7: return percent(&chance, 40) ? 0 : between(&chance, 0, n);
+    default: return n + below_bound(&chance, 10000);
+    }
+}
+
+static u32 random_budget(const u8 *bytes, u32 length)
+{
+    u8 output[4 * 12];
+    u32 most = percent(&chance, 8) ? 4 * walk : walk;
+    struct answer answer = second_solve(bytes, length, most, output, sizeof output);
+    switch (answer.number) {
+    case SOLVED: case NONE: return budget_near(answer.count);
+    case BUDGET: return below_bound(&chance, percent(&chance, 90) ? 300 : most);
+    default: return percent(&chance, 20) ? (u32)draw(&chance) : below_bound(&chance, 1000);
+    }
+}
+
+/* A length of output, for a table of v variables. */
+static u32 random_room(u32 v)
+{
+    u32 need = 4 * v;
+    u32 lot = below_bound(&chance, 1000);
+    if (lot < 5) {
+        return lot < 3 ? MOST_OUTPUT : between(&chance, MOST_OUTPUT + 1, 65535);
+    }
+    switch (lot % 16) {
+    case 0: return need > 0 ? need - 1 : 0;
+    case 1: return below_bound(&chance, need + 1);
+    case 2: return percent(&chance, 30) ? 0 : need;
+    case 3: case 4: case 5: return need + 7;
+    case 6: case 7: return need + below_bound(&chance, 20);
+    default: return need;
+    }
+}
+
+/* A line number, for a table of m lines. */
+static u32 random_line_number(u32 m)
+{
+    switch (below_bound(&chance, 10)) {
+    case 0: return m;
+    case 1: return m > 0 ? m - 1 : 1;
+    case 2: return percent(&chance, 50) ? largest : m + 1;
+    case 3: return below_bound(&chance, m) + (256u << between(&chance, 0, 23));
+    default: return below_bound(&chance, m);
+    }
+}
+
+static void load(struct question *question, u32 kind, const u8 *bytes, u32 length)
+{
+    question->kind = kind;
+    question->number = percent(&chance, 10) ? (u32)draw(&chance) : 0;
+    question->room = percent(&chance, 10) ? below_bound(&chance, 65536) : 0;
+    question->length = length;
+    memcpy(question->table, bytes, length);
+}
+
+static void ask_read(const u8 *bytes, u32 length)
+{
+    struct question question;
+    load(&question, KIND_READ, bytes, length);
+    ask(&question);
+}
+
+static void ask_line(const u8 *bytes, u32 length)
+{
+    struct question question;
+    u32 m = second_read(bytes, length).m;
+    load(&question, KIND_LINE, bytes, length);
+    question.number = random_line_number(m > 0 ? m : below_bound(&chance, 4));
+    ask(&question);
+}
+
+static void ask_solve(const u8 *bytes, u32 length)
+{
+    struct question question;
+    struct reading reading = second_read(bytes, length);
+    load(&question, KIND_SOLVE, bytes, length);
+    question.number = random_budget(bytes, length);
+    question.room = random_room(reading.number == 0 ? reading.v : below_bound(&chance, 4));
+    ask(&question);
+}
+
+/* A question of any kind about the table. */
+static void ask_any(const u8 *bytes, u32 length)
+{
+    u32 lot = below_bound(&chance, 100);
+    if (lot < 70) {
+        ask_solve(bytes, length);
+    } else if (lot < 88) {
+        ask_read(bytes, length);
+    } else {
+        ask_line(bytes, length);
+    }
+}
+
+/* ---- Groups of questions: tables as they are */
+
+/* A readable table as bytes. Answers its length. */
+static u32 make_bytes(u8 *bytes)
+{
+    struct draft draft;
+    make_table(&chance, walk, &draft);
+    return write_draft(&draft, bytes);
+}
+
+static void group_table(void)
+{
+    u8 bytes[DRAFT_BYTES];
+    u32 length = make_bytes(bytes);
+    u32 solves = between(&chance, 2, 4);
+    u32 lines = below_bound(&chance, 3);
+    for (u32 i = 0; i < solves; i++) {
+        ask_solve(bytes, length);
+    }
+    for (u32 i = 0; i < lines; i++) {
+        ask_line(bytes, length);
+    }
+    if (percent(&chance, 40)) {
+        ask_read(bytes, length);
+    }
+}
+
+/* A set number beyond two bytes: the one long walk. There is none where walks
+   are to be short. */
+static void group_long_walk(void)
+{
+    u8 bytes[DRAFT_BYTES];
+    u8 left = CODE_VARIABLE;
+    struct draft draft;
+    struct question question;
+    if (walk < USUAL_WALK) {
+        return;
+    }
+    draft_start(&draft, between(&chance, 17, 20), 0, 1);
+    add_line(&draft, 1, &left, CODE_CONSTANT + 16);
+    add_line(&draft, 1, &left, CODE_CONSTANT + below_bound(&chance, 12));
+    u32 length = write_draft(&draft, bytes);
+    load(&question, KIND_SOLVE, bytes, length);
+    question.number = 80000;
+    question.room = 4;
+    ask(&question);
+}
+
+/* ---- Groups of questions: damage */
+
+/* A byte to put in the place of another: one more or less, the first code of a
+   range, another code of the same range, or any. */
+static u8 damage(u8 kept)
+{
+    switch (below_bound(&chance, 5)) {
+    case 0: return (u8)(kept + 1);
+    case 1: return (u8)(kept - 1);
+    case 2: return (u8)(32 * below_bound(&chance, 4));
+    case 3: return (u8)(kept / 32 * 32 + below_bound(&chance, 14));
+    default: return (u8)draw(&chance);
+    }
+}
+
+/* A table damaged in each of its bytes. */
+static void group_damage(void)
+{
+    u8 bytes[DRAFT_BYTES];
+    u32 length = make_bytes(bytes);
+    for (u32 i = 0; i < length; i++) {
+        u8 kept = bytes[i];
+        bytes[i] = damage(kept);
+        ask_any(bytes, length);
+        bytes[i] = kept;
+    }
+}
+
+/* Every truncation of a table. */
+static void group_truncation(void)
+{
+    u8 bytes[DRAFT_BYTES];
+    u32 length = make_bytes(bytes);
+    for (u32 i = 0; i < length; i++) {
+        ask_any(bytes, i);
+    }
+}
+
+/* A table with a damaged byte, cut short before or after it. */
+static void group_both(void)
+{
+    u8 bytes[DRAFT_BYTES];
+    u32 length = make_bytes(bytes);
+    for (u32 i = 0; i < 12; i++) {
+        u32 place = below_bound(&chance, length);
+        u8 kept = bytes[place];
+        bytes[place] = damage(kept);
+        ask_any(bytes, between(&chance, place, length));
+        bytes[place] = kept;
+    }
+}
+
+/* Bytes after the last line: one, some, or as many as a question can have. */
+static void group_after(void)
+{
+    u8 bytes[DRAFT_BYTES + MOST_TABLE];
+    u32 length = make_bytes(bytes);
+    for (u32 i = length; i < MOST_TABLE; i++) {
+        bytes[i] = percent(&chance, 30) ? 0 : (u8)draw(&chance);
+    }
+    ask_solve(bytes, length + 1);
+    ask_any(bytes, length + 1);
+    ask_any(bytes, length + between(&chance, 2, 40));
+    if (percent(&chance, 10)) {
+        ask_any(bytes, between(&chance, length + 1, MOST_TABLE));
+        ask_any(bytes, MOST_TABLE);
+    }
+}
+
+/* Mark and version: bytes wrong alone and together, the version's more often. */
+static void group_mark(void)
+{
+    u8 bytes[DRAFT_BYTES], wrong[DRAFT_BYTES];
+    u32 length = make_bytes(bytes);
+    for (u32 i = 0; i < 24; i++) {
+        u32 which = percent(&chance, 60) ? 8 * between(&chance, 1, 3) : between(&chance, 1, 31);
+        memcpy(wrong, bytes, length);
+        for (u32 k = 0; k < 5; k++) {
+            wrong[k] += (u8)((which >> k & 1) * between(&chance, 1, 255));
+        }
+        ask_any(wrong, percent(&chance, 80) ? length : below_bound(&chance, length + 1));
+    }
+}
+
+/* Bytes by chance: all of them, or those after a good mark and version, or
+   small counts and then bytes that are mostly codes. */
+static void group_garbage(void)
+{
+    u8 bytes[100] = { 0x56, 0x4F, 0x43, 1, 0 };
+    u32 lot = below_bound(&chance, 4);
+    for (u32 i = lot == 0 ? 0 : 5; i < sizeof bytes; i++) {
+        if (lot < 2) {
+            bytes[i] = (u8)draw(&chance);
+        } else if (i < 10) {
+            bytes[i] = (u8)below_bound(&chance, 4);
+        } else {
+            bytes[i] = (u8)(below_bound(&chance, 3) + (percent(&chance, 50) ? 0 : 32 * below_bound(&chance, 4)));
+        }
+    }
+    ask_any(bytes, below_bound(&chance, percent(&chance, 30) ? 14 : sizeof bytes));
+}
+
+/* ---- Groups of questions: bounds and codes */
+
+/* A table with these counts, at a bound or over it. */
+static void ask_counts(u32 c, u32 r, u32 v, u32 e, u32 m, u32 p)
+{
+    u8 bytes[DRAFT_BYTES];
+    struct draft draft;
+    draft_start(&draft, c, r, v);
+    add_random_rows(&chance, &draft, e);
+    add_easy_lines(&chance, &draft, m, p, p);
+    u32 length = write_draft(&draft, bytes);
+    length = length > MOST_TABLE ? MOST_TABLE : length;
+    ask_read(bytes, length);
+    ask_solve(bytes, length);
+    if (percent(&chance, 30)) {
+        ask_line(bytes, length);
+    }
+}
+
+/* Each bound, and one over it; and several bounds broken at once. */
+static void group_bounds(void)
+{
+    u32 some = below_bound(&chance, 25);
+    ask_counts(1, 1, 1, 1, 1, 8);
+    ask_counts(1, 1, 1, 1, 2, 9);
+    ask_counts(24, 0, 1, 0, 1, 2);
+    ask_counts(24, 1, 1, 1, 1, 2);
+    ask_counts(25, 0, 0, 0, 1, 2);
+    ask_counts(0, 1, 1, 24, 1, 2);
+    ask_counts(0, 1, 1, 25, 1, 2);
+    ask_counts(some, 3, 1, 24 - some, 2, 3);
+    ask_counts(some, 3, 1, 25 - some, 2, 3);
+    ask_counts(255, 1, 0, 1, 0, 1);
+    ask_counts(between(&chance, 26, 255), 1, 1, below_bound(&chance, 20), 1, 1);
+    ask_counts(2, 1, 2, 1, 64, between(&chance, 1, 8));
+    ask_counts(2, 1, 2, 1, 65, 1);
+    ask_counts(1, 16, 1, 3, 1, 1);
+    ask_counts(1, 17, 1, 3, 1, 1);
+    ask_counts(1, 1, 12, 2, 3, 2);
+    ask_counts(1, 1, 13, 2, 3, 2);
+    ask_counts(25, 17, 13, 3, 65, 1);
+    ask_counts(25, 16, 13, 3, 65, 1);
+    ask_counts(25, 16, 12, 3, 65, 1);
+    ask_counts(20, 16, 12, 4, 65, 1);
+    ask_counts(0, 0, below_bound(&chance, 13), 0, 0, 1);
+    ask_counts(0, 0, 0, 0, 0, 1);
+    ask_counts(0, 16, 12, 24, 64, 8);
+}
+
+/* Every value of one byte of a table. */
+static void ask_every_value(u8 *bytes, u32 length, u32 place)
+{
+    u8 kept = bytes[place];
+    for (u32 value = 0; value < 256; value++) {
+        bytes[place] = (u8)value;
+        ask_any(bytes, length);
+    }
+    bytes[place] = kept;
+}
+
+/* Every value of a filler, of a left entry and of a right one. */
+static void group_codes(void)
+{
+    u8 bytes[DRAFT_BYTES];
+    struct draft draft;
+    make_full_table(&chance, walk, &draft);
+    u32 length = write_draft(&draft, bytes);
+    ask_every_value(bytes, length, 10 + 2 * below_bound(&chance, draft.e) + 1);
+    make_full_table(&chance, walk, &draft);
+    length = write_draft(&draft, bytes);
+    ask_every_value(bytes, length, length - 2);
+    make_full_table(&chance, walk, &draft);
+    length = write_draft(&draft, bytes);
+    ask_every_value(bytes, length, length - 1);
+}
+
+/* Every value of any byte. */
+static void group_values(void)
+{
+    u8 bytes[DRAFT_BYTES];
+    u32 length = make_bytes(bytes);
+    ask_every_value(bytes, length, below_bound(&chance, length));
+}
+
+/* ---- The stream */
+
+struct group {
+    u32 weight;
+    void (*ask)(void);
+};
+
+static const struct group groups[] = {
+    { 8100, group_table }, { 700, group_garbage }, { 550, group_after }, { 200, group_damage },
+    { 200, group_both },   { 100, group_truncation }, { 50, group_mark }, { 50, group_bounds },
+    { 30, group_values },  { 2, group_long_walk },
+};
+
+static void group_by_chance(void)
+{
+    u32 all = 0;
+    for (u32 i = 0; i < sizeof groups / sizeof groups[0]; i++) {
+        all += groups[i].weight;
+    }
+    u32 lot = below_bound(&chance, all);
+    u32 i = 0;
+    while (lot >= groups[i].weight) {
+        lot -= groups[i++].weight;
+    }
+    groups[i].ask();
+}
+
+/* Each group of limits and damage once, and then groups by chance. */
+static void ask_all(u64 count)
+{
+    group_bounds();
+    group_mark();
+    group_damage();
+    group_truncation();
+    group_after();
+    group_codes();
+    group_long_walk();
+    while (asked < count) {
+        group_by_chance();
+    }
+}
+
+int main(int words, char **word)
+{
+    only_stats = words > 1 && strcmp(word[1], "stats") == 0;
+    int first = only_stats ? 2 : 1;
+    int given = words - first;
+    if (given < 2 || given > 3) {
+        fail("usage: ask [stats] SEED COUNT [WALK]");
+    }
+    chance.state = number_of(word[first]);
+    walk = given == 3 ? (u32)number_of(word[first + 2]) : USUAL_WALK;
+    ask_all(number_of(word[first + 1]));
+    if (only_stats) {
+        put_stats();
+    }
+    flush();
+    return 0;
+}

@@ -1,0 +1,76 @@
+/* Catalogue tables in the making, for the generators of questions: a draft is
+   filled by chance, may go over every bound, and is then written as bytes. */
+
+#ifndef DRAFT_H
+#define DRAFT_H
+
+#include "base.h"
+
+enum {
+    DRAFT_ROWS = 32,
+    DRAFT_LEFT = 12,
+    DRAFT_LINES = 72,
+    DRAFT_BYTES = 10 + 2 * DRAFT_ROWS + (2 + DRAFT_LEFT) * DRAFT_LINES
+};
+
+/* Codes. */
+enum {
+    CODE_TOP = 0x00,
+    CODE_CONSTANT = 0x20,
+    CODE_RESTRICTION = 0x40,
+    CODE_VARIABLE = 0x60
+};
+
+struct draft_row {
+    u8 role, filler;
+};
+
+struct draft_line {
+    u8 p;
+    u8 left[DRAFT_LEFT];
+    u8 right;
+};
+
+struct draft {
+    u32 c, r, v, e, m;
+    struct draft_row row[DRAFT_ROWS];
+    struct draft_line line[DRAFT_LINES];
+};
+
+/* ---- Chance: a sequence of numbers, the same for the same seed */
+
+struct chance {
+    u64 state;
+};
+
+u64 draw(struct chance *chance);
+u32 below_bound(struct chance *chance, u32 bound);            /* 0 to bound - 1; 0 for bound 0 */
+u32 between(struct chance *chance, u32 least, u32 most);
+int percent(struct chance *chance, u32 percentage);           /* 1 that often */
+
+/* ---- Drafts */
+
+/* The counts, and no rows or lines: e and m are 0. */
+void draft_start(struct draft *draft, u32 c, u32 r, u32 v);
+
+void add_row(struct draft *draft, u32 role, u32 filler);
+void add_line(struct draft *draft, u32 p, const u8 *left, u32 right);
+
+/* Codes by chance, allowed where they are meant to stand. There must be a
+   constant, a row or a variable for an entry. */
+u32 random_filler(struct chance *chance, const struct draft *draft);
+u32 random_entry(struct chance *chance, const struct draft *draft);
+int has_entries(const struct draft *draft);
+
+void add_random_rows(struct chance *chance, struct draft *draft, u32 rows);
+void add_random_line(struct chance *chance, struct draft *draft, u32 most_left);
+
+/* Adds lines that hold under any sets: each has its right entry on the left
+   too. */
+void add_easy_lines(struct chance *chance, struct draft *draft, u32 lines, u32 least_left,
+                    u32 most_left);
+
+/* Writes the table and answers its length. */
+u32 write_draft(const struct draft *draft, u8 *bytes);
+
+#endif

@@ -1,0 +1,282 @@
+/* grow SEED COUNT: writes a stream of COUNT pairs of solve questions. Of three
+   pairs, one asks about a table and a table grown from it with new lines, one
+   about a table and a table grown from it without new lines, and one about the
+   same table twice, the second time with a larger budget and a longer output.
+
+   grow check SEED COUNT: reads the lines of text that answer this stream, and
+   holds them to what growth and larger budgets may change:
+     a table without a solution: no growth of it is solved;
+     a solved table: no growth of it without new lines has none;
+     a table answered with 0 or 8: again with the same number, count and sets.
+   Says how many pairs were decided. Ends with status 1 if one breaks this, or
+   if too few were decided. */
+
+#include "draft.h"
+#include "second.h"
+#include "stream.h"
+
+enum {
+    WITH_LINES = 0,
+    SAME_LINES = 1,
+    AGAIN = 2,
+    KINDS = 3,
+    ENOUGH_BUDGET = 40000,
+    LEAST_PERCENT = 5,
+    LONGEST_TEXT = 2 * MOST_OUTPUT + 40
+};
+
+struct pair {
+    u32 kind;
+    struct question first, second;
+};
+
+/* ---- Pairs */
+
+static void make_small(struct chance *chance, struct draft *draft)
+{
+    u32 all = between(chance, 1, 4);
+    u32 c = below_bound(chance, all / 2 + 1);
+    u32 v = percent(chance, 10) ? below_bound(chance, 4) : between(chance, 1, 2);
+    draft_start(draft, c, between(chance, 1, 2), v);
+    add_random_rows(chance, draft, all - c);
+    u32 lines = between(chance, 1, 4);
+    for (u32 i = 0; i < lines; i++) {
+        add_random_line(chance, draft, 3);
+    }
+}
+
+/* A table grown from the draft: higher counts, and new rows and, if asked for,
+   new lines after the old ones. */
+static void grow(struct chance *chance, struct draft *draft, int with_lines)
+{
+    u32 atoms = below_bound(chance, 3);
+    u32 constants = below_bound(chance, atoms + 1);
+    draft->c += constants;
+    draft->r += below_bound(chance, 2);
+    draft->v += below_bound(chance, 2);
+    add_random_rows(chance, draft, atoms - constants);
+    u32 lines = with_lines ? between(chance, 1, 2) : 0;
+    for (u32 i = 0; i < lines; i++) {
+        add_random_line(chance, draft, 3);
+    }
+}
+
+static void load(struct question *question, const struct draft *draft, u32 budget, u32 more_room)
+{
+    u8 bytes[DRAFT_BYTES];
+    question->kind = KIND_SOLVE;
+    question->number = budget;
+    question->room = 4 * draft->v + more_room;
+    question->length = write_draft(draft, bytes);
+    memcpy(question->table, bytes, question->length);
+}
+
+/* A budget with which the table is mostly answered, and sometimes just not. */
+static u32 close_budget(struct chance *chance, const struct draft *draft)
+{
+    u8 bytes[DRAFT_BYTES], output[4 * 12];
+    u32 length = write_draft(draft, bytes);
+    struct answer answer = second_solve(bytes, length, ENOUGH_BUDGET, output, sizeof output);
+    return percent(chance, 80) ? answer.count : answer.count - 1;
+}
+
+static void make_pair(struct chance *chance, struct pair *pair, u64 index)
+{
+    struct draft draft;
+    pair->kind = (u32)(index % KINDS);
+    make_small(chance, &draft);
+    if (pair->kind == AGAIN) {
+        grow(chance, &draft, 1);
+        u32 budget = close_budget(chance, &draft);
+        u32 room = below_bound(chance, 3);
+        load(&pair->first, &draft, budget, room);
+        load(&pair->second, &draft, budget + between(chance, 1, ENOUGH_BUDGET),
+             room + between(chance, 1, 9));
+    } else {
+        load(&pair->first, &draft, ENOUGH_BUDGET, 0);
+        grow(chance, &draft, pair->kind == WITH_LINES);
+        load(&pair->second, &draft, ENOUGH_BUDGET, 0);
+    }
+}
+
+static void write_pairs(u64 seed, u64 count)
+{
+    static struct pair pair;
+    struct chance chance = { seed };
+    for (u64 i = 0; i < count; i++) {
+        make_pair(&chance, &pair, i);
+        put_question(&pair.first);
+        put_question(&pair.second);
+    }
+}
+
+/* ---- Answers */
+
+struct told {
+    u32 number, count, place;
+    char sets[LONGEST_TEXT]; /* the output in hex; empty for no bytes */
+};
+
+/* Reads a line of text without its newline. Answers 0 if there is none. */
+static int get_line(char *text)
+{
+    u32 length = 0;
+    int byte = get_byte();
+    while (byte >= 0 && byte != '\n' && length < LONGEST_TEXT - 1) {
+        text[length++] = (char)byte;
+        byte = get_byte();
+    }
+    text[length] = 0;
+    return byte == '\n';
+}
+
+/* Reads a decimal number and the space after it. Answers 0 if it is none. */
+static int take_number(const char **text, u32 *number)
+{
+    const char *start = *text;
+    *number = 0;
+    while (**text >= '0' && **text <= '9') {
+        *number = 10 * *number + (u32)(*(*text)++ - '0');
+    }
+    return *text > start && *(*text)++ == ' ';
+}
+
+static int get_told(struct told *told)
+{
+    char line[LONGEST_TEXT];
+    const char *text = line;
+    if (!get_line(line) || !take_number(&text, &told->number) || !take_number(&text, &told->count)
+        || !take_number(&text, &told->place)) {
+        return 0;
+    }
+    text += *text == '-';
+    memcpy(told->sets, text, strlen(text) + 1);
+    return 1;
+}
+
+static int decided(const struct told *told)
+{
+    return told->number == SOLVED || told->number == NONE;
+}
+
+/* Whether the second answer repeats the first, with the fill after its sets. */
+static int same_answer(const struct told *first, const struct told *second)
+{
+    u32 length = (u32)strlen(first->sets);
+    if (first->number != second->number || first->count != second->count
+        || first->place != second->place || strlen(second->sets) < length
+        || memcmp(first->sets, second->sets, length) != 0) {
+        return 0;
+    }
+    for (const char *rest = second->sets + length; *rest != 0; rest++) {
+        if (*rest != 'a') {
+            return 0;
+        }
+    }
+    return 1;
+}
+
+/* Whether the answers of a pair are as they must be. */
+static int pair_holds(u32 kind, const struct told *first, const struct told *second)
+{
+    if (kind == AGAIN) {
+        return !decided(first) || same_answer(first, second);
+    }
+    if (first->number == NONE) {
+        return second->number != SOLVED;
+    }
+    return !(first->number == SOLVED && kind == SAME_LINES && second->number == NONE);
+}
+
+/* ---- The check */
+
+/* How many pairs of each kind had both answers decided, by the first answer. */
+struct tally {
+    u64 pairs[KINDS], none[KINDS], solved[KINDS];
+};
+
+static void put_tally(const struct tally *tally)
+{
+    static const char *const names[KINDS] = { "grown with new lines", "grown without new lines",
+                                              "asked again" };
+    for (u32 kind = 0; kind < KINDS; kind++) {
+        put_text(names[kind]);
+        put_text(": ");
+        put_number(tally->pairs[kind]);
+        put_text(" pairs, decided ");
+        put_number(tally->none[kind]);
+        put_text(" from none and ");
+        put_number(tally->solved[kind]);
+        put_text(" from solved\n");
+    }
+}
+
+/* Whether each kind has enough pairs that were decided; with new lines a
+   solved table may become anything, so there only none counts. */
+static int enough(const struct tally *tally)
+{
+    for (u32 kind = 0; kind < KINDS; kind++) {
+        u64 least = tally->pairs[kind] * LEAST_PERCENT;
+        if (tally->none[kind] * 100 < least || (kind != WITH_LINES && tally->solved[kind] * 100 < least)) {
+            return 0;
+        }
+    }
+    return 1;
+}
+
+static void put_broken(const struct pair *pair)
+{
+    put_text("grow: a pair breaks what growth allows:\n  ");
+    put_hex(pair->first.table, pair->first.length);
+    put_text("\n  ");
+    put_hex(pair->second.table, pair->second.length);
+    put_text("\n");
+}
+
+static int check_pairs(u64 seed, u64 count)
+{
+    static struct pair pair;
+    static struct told first, second;
+    struct chance chance = { seed };
+    struct tally tally = { { 0 }, { 0 }, { 0 } };
+    for (u64 i = 0; i < count; i++) {
+        make_pair(&chance, &pair, i);
+        if (!get_told(&first) || !get_told(&second)) {
+            put_text("grow: an answer is missing\n");
+            return 0;
+        }
+        if (!pair_holds(pair.kind, &first, &second)) {
+            put_broken(&pair);
+            return 0;
+        }
+        tally.pairs[pair.kind]++;
+        tally.none[pair.kind] += first.number == NONE && decided(&second);
+        tally.solved[pair.kind] += first.number == SOLVED && decided(&second);
+    }
+    if (get_byte() >= 0) {
+        put_text("grow: there are more answers than questions\n");
+        return 0;
+    }
+    put_tally(&tally);
+    if (!enough(&tally)) {
+        put_text("grow: too few pairs were decided\n");
+        return 0;
+    }
+    return 1;
+}
+
+int main(int words, char **word)
+{
+    int check = words == 4 && strcmp(word[1], "check") == 0;
+    int good = 1;
+    if (words != 3 && !check) {
+        fail("usage: grow [check] SEED COUNT");
+    }
+    if (check) {
+        good = check_pairs(number_of(word[2]), number_of(word[3]));
+    } else {
+        write_pairs(number_of(word[1]), number_of(word[2]));
+    }
+    flush();
+    return good ? 0 : 1;
+}

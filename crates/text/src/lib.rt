@@ -164,7 +164,7 @@ fn put_atom(table: &[u8], i: usize, buffer: &mut [u8], at: usize) -> usize
 }
 
 // Is atom i in the set?
-fn in_set(set: usize, i: usize) -> bool
+fn in_set(set: u32, i: usize) -> bool
     requires { ⌜ i < 32 ⌝ }
     ensures { λ r. ⌜ r ≡ bit i set ⌝ }
 {
@@ -181,7 +181,7 @@ fn either(a: bool, b: bool) -> bool
 }
 
 // Atom i, where the set has it, behind those that were written already.
-fn put_atom_of(table: &[u8], set: usize, i: usize, later: bool, buffer: &mut [u8], at: usize) -> usize
+fn put_atom_of(table: &[u8], set: u32, i: usize, later: bool, buffer: &mut [u8], at: usize) -> usize
     requires { ⌜ T (isReadable (reading (now table))) × (i < byteAt (now table) 5 + byteAt (now table) 8) ⌝ }
     ensures { λ r. ⌜ Appended (now (buffer .entry)) at (atomOf (tableOf (now (table .entry))) set i later) (now (buffer .exit)) r ⌝ }
 {
@@ -193,7 +193,7 @@ fn put_atom_of(table: &[u8], set: usize, i: usize, later: bool, buffer: &mut [u8
 }
 
 // A set: its atoms in rising number.
-fn put_set(table: &[u8], set: usize, buffer: &mut [u8], at: usize) -> usize
+fn put_set(table: &[u8], set: u32, buffer: &mut [u8], at: usize) -> usize
     requires { ⌜ T (isReadable (reading (now table))) ⌝ }
     ensures { λ r. ⌜ Appended (now (buffer .entry)) at (setText (tableOf (now (table .entry))) set) (now (buffer .exit)) r ⌝ }
 {
@@ -213,11 +213,13 @@ fn put_set(table: &[u8], set: usize, buffer: &mut [u8], at: usize) -> usize
 }
 
 // The number in four bytes, little-endian.
-pub fn number_at(bytes: &[u8], at: usize) -> usize
+pub fn number_at(bytes: &[u8], at: usize) -> u32
     requires { ⌜ at + 4 ≤ length (now bytes) ⌝ }
     ensures { λ r. ⌜ r ≡ numberAt (now (bytes .entry)) at ⌝ }
 {
-    byte_at(bytes, at) + 256 * byte_at(bytes, at + 1) + 65536 * byte_at(bytes, at + 2) + 16777216 * byte_at(bytes, at + 3)
+    let low = byte_at(bytes, at) + 256 * byte_at(bytes, at + 1);
+    let high = byte_at(bytes, at + 2) + 256 * byte_at(bytes, at + 3);
+    (low + 65536 * high) as u32
 }
 
 // The line of variable x.

@@ -1,0 +1,31 @@
+use borrow.Author.Needs.{needs}
+use Rattle.batch.proofs.solve_reply.Statement.{statement}
+use Rattle.batch.proofs.solve_reply.Tie as tie
+use Rattle.batch.proofs.solve_reply.Reads as reads
+use Rattle.batch.proofs.solve_reply.Lts as lts
+use Rattle.makrothel.proofs.solve.Reads as solve-reads
+use Rattle.text.proofs.solve_line.Reads as solve-line-reads
+
+-- src/main.rt:88:9
+solve-requires : tie.Need-solve-requires
+solve-requires c κs = search needs
+
+-- src/main.rt:89:5
+solve-line-requires : tie.Need-solve-line-requires
+solve-line-requires c κs = search needs
+
+-- src/main.rt:85:1
+same-length : tie.Need-same-length
+same-length c = search needs
+
+-- src/main.rt:85:1
+same-length-2 : tie.Need-same-length-2
+same-length-2 c = search needs
+
+-- src/main.rt:85:1
+returns : tie.Need-returns
+returns c = ?
+
+pub solve-reply-spec : {M : Type 1} → statement M
+solve-reply-spec =
+    tie.close (tie.spec solve-requires solve-line-requires same-length same-length-2 returns)

@@ -1,6 +1,5 @@
 -- Laws that carry the writers to what they write.
 --
---   decimal-short, decimal-long == a number below 10, and one with more digits
 --   take-more       == one element more
 --   joined-more     == one text more
 --   text-turn, numbers-turn, bytes-turn == a turn of the loop over a slice
@@ -13,40 +12,11 @@ use native.Mathlib.Numerals.{add-one}
 use lib.Dec.{ltb}
 use lib.ListN.{length, getD, take, drop}
 use lib.Seq.{take-suc, take-all}
-use borrow.Author.Tests.{lt-ltb, le-ltb, ltb-true, ltb-false}
+use borrow.Author.Tests.{lt-ltb}
 use Rattle.text.specs.Append.{Appended}
 use Rattle.text.specs.AppendLaws.{appended-none, appended-then, appended-as}
-use Rattle.text.specs.Text.{space, digit, decimalTo, decimal, behind, joined, numbersText, bytesText, hexText}
-
------------------------------------------------------------------- numbers
-
--- the digits of a number, by whether there is more than one
-abbrev digitsBy : ℕ → ℕ → Bool → List ℕ
-digitsBy k n b = elim b [ true ↦ digit n ∷ [] | false ↦ decimalTo k (n / 10) ++ (digit (n % 10) ∷ []) ]
-
-decimal-by : (k n : ℕ) (b : Bool) → ltb n 10 ≡ b → decimalTo (suc k) n ≡ digitsBy k n b
-unfolding decimalTo
-decimal-by k n b e = ap (digitsBy k n) e
-
--- any number of digits that is enough gives the same
-decimal-enough : (j k n : ℕ) → n < j → n < k → decimalTo j n ≡ decimalTo k n
-decimal-enough zero k n h l = absurd (let z : ⊥ = omega arith in z)
-decimal-enough (suc j) zero n h l = absurd (let z : ⊥ = omega arith in z)
-decimal-enough (suc j) (suc k) n h l = go (ltb n 10) refl (decimal-enough j k (n / 10))
-  where
-    go : (b : Bool) → ltb n 10 ≡ b → (n / 10 < j → n / 10 < k → decimalTo j (n / 10) ≡ decimalTo k (n / 10)) → decimalTo (suc j) n ≡ decimalTo (suc k) n
-    go true e f = decimal-by j n true e ∙ sym (decimal-by k n true e)
-    go false e f =
-        let m : 10 ≤ n = ltb-false n 10 e in
-        decimal-by j n false e ∙ ap (λ (d : List ℕ). d ++ (digit (n % 10) ∷ [])) (f (omega arith) (omega arith)) ∙ sym (decimal-by k n false e)
-
-pub decimal-short : (n : ℕ) → n < 10 → digit n ∷ [] ≡ decimal n
-unfolding decimal
-decimal-short n h = sym (decimal-by n n true (lt-ltb n 10 h))
-
-pub decimal-long : (n : ℕ) → 10 ≤ n → decimal (n / 10) ++ (digit (n % 10) ∷ []) ≡ decimal n
-unfolding decimal
-decimal-long n h = ap (λ (d : List ℕ). d ++ (digit (n % 10) ∷ [])) (decimal-enough (suc (n / 10)) n (n / 10) (omega arith) (omega arith)) ∙ sym (decimal-by n n false (le-ltb n 10 h))
+use Rattle.text.specs.TextLaws.{decimal-short, decimal-long}
+use Rattle.text.specs.Text.{space, digit, decimal, behind, joined, numbersText, bytesText, hexText}
 
 ------------------------------------------------------------------ texts one after the other
 

@@ -2,10 +2,9 @@
 // length of the output in two, the length of the table in two, little-endian, and the table.
 ghost use mathlib.Core.Path.{_≡_};
 ghost use Prim.Native.Nat.{_+_, _*_, _≤_, _<_, min};
-ghost use lib.ListN.{length};
+ghost use lib.ListN.{length, take};
+ghost use Rattle.io.specs.Counts.{Counts};
 ghost use Rattle.table.specs.Reading.{byteAt};
-ghost use Rattle.text.specs.Append.{Appended};
-ghost use Rattle.text.specs.Listing.{numberAt};
 ghost use Rattle.batch.specs.Question.{questionOf, isQuestion, readReply, lineReply, solveReply, reply};
 use libc::STDIN_FILENO;
 use libc::STDOUT_FILENO;
@@ -22,7 +21,7 @@ pub struct Question {
 }
 
 fn wide(x: u8) -> usize
-    ensures { λ r. ⌜ r ≡ x ⌝ }
+    ensures { λ r. ⌜ (r ≡ x) × (r < 256) ⌝ }
 {
     x as usize
 }
@@ -61,7 +60,9 @@ fn is_question(q: Question) -> bool
 }
 
 fn read_reply(table: &[u8], line: &mut [u8]) -> usize
-    ensures { λ r. ⌜ Appended (now (line .entry)) 0 (readReply (now (table .entry))) (now (line .exit)) r ⌝ }
+    requires { ⌜ 4096 ≤ length (now line) ⌝ }
+    ensures { λ r. ⌜ Counts r (now (line .exit)) ⌝ }
+    ensures { λ r. ⌜ take r (now (line .exit)) ≡ readReply (now (table .entry)) ⌝ }
 {
     let a = makrothel::read(table);
     text::read_line(
@@ -77,13 +78,17 @@ fn read_reply(table: &[u8], line: &mut [u8]) -> usize
 }
 
 fn line_reply(table: &[u8], n: u32, line: &mut [u8]) -> usize
-    ensures { λ r. ⌜ Appended (now (line .entry)) 0 (lineReply (now (table .entry)) n) (now (line .exit)) r ⌝ }
+    requires { ⌜ (length (now table) ≤ 1024) × (4096 ≤ length (now line)) ⌝ }
+    ensures { λ r. ⌜ Counts r (now (line .exit)) ⌝ }
+    ensures { λ r. ⌜ take r (now (line .exit)) ≡ lineReply (now (table .entry)) n ⌝ }
 {
     text::hex_line(makrothel::line(table, n), line)
 }
 
 fn solve_reply(table: &[u8], budget: u32, output: &mut [u8], line: &mut [u8]) -> usize
-    ensures { λ r. ⌜ Appended (now (line .entry)) 0 (solveReply (now (table .entry)) budget (now (output .entry))) (now (line .exit)) r ⌝ }
+    requires { ⌜ (length (now output) ≤ 1024) × (4096 ≤ length (now line)) ⌝ }
+    ensures { λ r. ⌜ Counts r (now (line .exit)) ⌝ }
+    ensures { λ r. ⌜ take r (now (line .exit)) ≡ solveReply (now (table .entry)) budget (now (output .entry)) ⌝ }
 {
     let a = makrothel::solve(table, budget, output);
     text::solve_line(a.number, a.count, a.place, output, line)
@@ -91,8 +96,9 @@ fn solve_reply(table: &[u8], budget: u32, output: &mut [u8], line: &mut [u8]) ->
 
 // The answer to a question, as a line.
 fn reply_to(q: Question, table: &[u8], line: &mut [u8]) -> usize
-    requires { ⌜ q .room ≤ 1024 ⌝ }
-    ensures { λ r. ⌜ Appended (now (line .entry)) 0 (reply q (now (table .entry))) (now (line .exit)) r ⌝ }
+    requires { ⌜ (q .room ≤ 1024) × (length (now table) ≤ 1024) × (4096 ≤ length (now line)) ⌝ }
+    ensures { λ r. ⌜ Counts r (now (line .exit)) ⌝ }
+    ensures { λ r. ⌜ take r (now (line .exit)) ≡ reply q (now (table .entry)) ⌝ }
 {
     if q.kind == 1 {
         return read_reply(table, line);
@@ -108,6 +114,13 @@ fn reply_to(q: Question, table: &[u8], line: &mut [u8]) -> usize
 fn cut() -> bool {
     io::write_all(STDOUT_FILENO, b"cut\n");
     false
+}
+
+// Reads the first `size` bytes of the table. Says whether they were there.
+fn is_read(table: &mut [u8], size: usize) -> bool
+    requires { ⌜ size ≤ length (now table) ⌝ }
+{
+    io::read_full(STDIN_FILENO, &mut table[..size]) == size
 }
 
 // Reads a question and answers it. Says whether to go on.
@@ -126,8 +139,7 @@ fn answer_one() -> bool {
     }
     let length = q.length;
     let mut table = [0u8; MOST];
-    let n = io::read_full(STDIN_FILENO, &mut table[..length]);
-    if n < length {
+    if !is_read(&mut table, length) {
         return cut();
     }
     let mut line = [0u8; 4096];

@@ -1,5 +1,8 @@
 // Reads a table from standard input, solves it and writes the answer as text.
-ghost use Rattle.text.specs.Append.{Appended};
+ghost use mathlib.Core.Path.{_≡_};
+ghost use Prim.Native.Nat.{_≤_};
+ghost use lib.ListN.{length, take};
+ghost use Rattle.io.specs.Counts.{Counts};
 ghost use Rattle.listing.specs.Report.{reportText};
 use libc::STDIN_FILENO;
 use libc::STDOUT_FILENO;
@@ -11,7 +14,9 @@ const BUDGET: u32 = 1000000;
 
 // The answer to a table as text, at the start of the buffer.
 fn report(table: &[u8], buffer: &mut [u8]) -> usize
-    ensures { λ r. ⌜ Appended (now (buffer .entry)) 0 (reportText (now (table .entry))) (now (buffer .exit)) r ⌝ }
+    requires { ⌜ 4096 ≤ length (now buffer) ⌝ }
+    ensures { λ r. ⌜ Counts r (now (buffer .exit)) ⌝ }
+    ensures { λ r. ⌜ take r (now (buffer .exit)) ≡ reportText (now (table .entry)) ⌝ }
 {
     let mut output = [0u8; 48];
     let a = makrothel::solve(table, BUDGET, &mut output);

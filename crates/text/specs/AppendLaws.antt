@@ -8,6 +8,7 @@
 --   appended-then  == a text and then another are appended as one
 --   appended-as    == the text may be said in another way
 --   appended-room  == where there is room the text stands there whole, and the rest of the buffer stays
+--   appended-whole == the same at the start of the buffer
 --   appended-unique == two results of appending one text are equal
 use mathlib.Core.Path.{_≡_, refl, sym, ap, ap₂, subst, _∙_}
 use mathlib.Core.List.{List, [], _∷_, _++_, append-assoc, append-nil}
@@ -135,6 +136,13 @@ appended-room {b} {t} {a} {at} {r} h room =
       ap₂ (λ (i : ℕ) (x : List ℕ). take i x) (h .end) (h .bytes) ∙ put-take b at t (omega arith) ∙ ap (λ (x : List ℕ). take at b ++ x) f,
       ap₂ (λ (i : ℕ) (x : List ℕ). drop i x) (h .end) (h .bytes) ∙ put-drop b at t (omega arith) ∙ ap (λ (i : ℕ). drop i b) (sym (h .end)),
     )
+
+pub appended-whole : {b t a : List ℕ} {r : ℕ} → Appended b 0 t a r → length t ≤ length b → (r ≤ length a) × (r ≡ length (take r a)) × (take r a ≡ t)
+appended-whole {b} {t} {a} {r} h room =
+    let x : (r ≡ 0 + length t) × (take r a ≡ t) × (drop r a ≡ drop r b) = appended-room h (omega arith) in
+    let e : r ≡ length t = omega (arith, x .0) in
+    let w : take r a ≡ t = x .1 in
+    (omega (arith, appended-length h), e ∙ sym (ap length w), w)
 
 pub appended-unique : {b t a a′ : List ℕ} {at r r′ : ℕ} → Appended b at t a r → Appended b at t a′ r′ → (a ≡ a′) × (r ≡ r′)
 appended-unique h k = (h .bytes ∙ sym (k .bytes), h .end ∙ sym (k .end))

@@ -1,5 +1,6 @@
 -- `makrothel::finish` meets its contract: a law for each end of the walk.
 use borrow.Author.Needs.{needs}
+use Rattle.walk.specs.Step as step
 use Rattle.makrothel.specs.Solve.{answered}
 use Rattle.makrothel.proofs.Laws.{finish-found, finish-nothing, finish-spent}
 use Rattle.makrothel.proofs.finish.Statement.{statement}
@@ -30,12 +31,12 @@ same-length c = search needs
 
 -- src/lib.rt:82:1
 returns-2 : tie.Need-returns-2
-unfolding answered
+unfolding answered step.outcomeOf
 returns-2 c = finish-nothing _ _ (c .enum-told2 .given .1)
 
 -- src/lib.rt:82:1
 returns-3 : tie.Need-returns-3
-unfolding answered
+unfolding answered step.outcomeOf
 returns-3 c = finish-spent _ _ (c .enum-told3 .given .1)
 
 -- src/lib.rt:82:1

@@ -39,7 +39,8 @@ use Rattle.table.specs.LayoutLaws.{layout}
 use Rattle.order.specs.Given.{LineGiven}
 use Rattle.node.specs.declared.Sets.{Sets}
 use Rattle.node.specs.Node.{nodeOf, Clean, Masks, isAmong, dependsBy, FillMasks, LineMasks, LineStarts, Fills, Prepares, rowOf, Shows, Squares, settledBy, leadsBy, LiveAbove, NodeGiven}
-use Rattle.node.specs.MaskLaws.{has-bit, bit-more, or-none, bit-or, bit-and, no-bits, high-none, none-high, masks-or, masks-same}
+use Rattle.order.specs.BitLaws.{bit-or, bit-and}
+use Rattle.node.specs.MaskLaws.{has-bit, bit-more, or-none, no-bits, high-none, none-high, masks-or, masks-same}
 use Rattle.node.specs.CodeLaws.{eqb-comm, mask-one}
 use Rattle.node.specs.ReadyLaws.{every-among, among-every, ready-by, none-by, leads-says}
 use Rattle.node.specs.SquareLaws.{depends-filled, set-node, length-node, reaches-unchosen}

@@ -1,8 +1,6 @@
 -- Laws of masks: numbers whose bits say which variables are meant.
 --
 --   or-none, and-none, and-all == what no more adds to and what nothing passes
---   bit-or          == the bits of `a | b`
---   bit-and         == the bits of `a & b`
 --   bit-one         == the bits of `1 << k`
 --   shifted         == `1 << k` as the machine shifts it
 --   has-bit             == a number that is not 0 has a bit
@@ -16,17 +14,18 @@
 --   masks-same      == the same mask under a test that agrees
 use mathlib.Core.Path.{_≡_, refl, sym, ap, ap₂, _∙_}
 use mathlib.Core.Bool.{Bool, true, false, _&&_, _||_}
-use Prim.Native.Nat.{ℕ, zero, suc, _+_, _-_, _*_, _/_, _%_, _^_, _≤_, _<_, min, max}
+use Prim.Native.Nat.{ℕ, zero, suc, _+_, _-_, _*_, _/_, _%_, _^_, _≤_, _<_}
 use native.Mathlib.Omega.{arith}
 use native.Mathlib.Nat.{div-self, div-eq-of-lt, mul-div-cancel-left, one-mul, pow-suc, div-one, div-div-eq-div-mul, pow-succ', mul-mod-left}
 use native.Mathlib.Decide.{ℕ-discrete, decLt}
 use borrow.Author.Tests.{eq-eqb, ne-eqb, eqb-false}
 use lib.Dec.{eqb}
 use lib.Arith.{bin-ind}
-use lib.Bits.{bitOr, bitAnd, or-shr, or-step, and-shr, and-step}
+use lib.Bits.{bitOr}
 use lib.Pow.{pow-pos, pow-lt, pow-add, shl-exact, shr-shr}
 use Rattle.el.specs.Test.{bit}
 use Rattle.el.specs.TestLaws.{bit-none}
+use Rattle.order.specs.BitLaws.{bit-or}
 use Rattle.node.specs.Node.{Masks}
 
 pub or-none : (p : Bool) → p || false ≡ p
@@ -40,42 +39,6 @@ and-none false = refl
 pub and-all : (p : Bool) → p && true ≡ p
 and-all true = refl
 and-all false = refl
-
-digit-or : (a b : ℕ) → a < 2 → b < 2 → eqb (max a b) 1 ≡ eqb a 1 || eqb b 1
-digit-or zero zero h k = refl
-digit-or zero (suc zero) h k = refl
-digit-or (suc zero) zero h k = refl
-digit-or (suc zero) (suc zero) h k = refl
-digit-or zero (suc (suc b)) h k = absurd (let z : ⊥ = omega arith in z)
-digit-or (suc zero) (suc (suc b)) h k = absurd (let z : ⊥ = omega arith in z)
-digit-or (suc (suc a)) b h k = absurd (let z : ⊥ = omega arith in z)
-
-or-odd : (a b : ℕ) → bitOr a b % 2 ≡ max (a % 2) (b % 2)
-or-odd a b = ap (λ (n : ℕ). n % 2) (or-step a b) ∙ omega arith
-
-pub bit-or : (i a b : ℕ) → bit i (bitOr a b) ≡ bit i a || bit i b
-unfolding bit
-bit-or i a b =
-    ap (λ (n : ℕ). eqb (n % 2) 1) (or-shr a b i) ∙ ap (λ (n : ℕ). eqb n 1) (or-odd (a / 2 ^ i) (b / 2 ^ i))
-    ∙ digit-or (a / 2 ^ i % 2) (b / 2 ^ i % 2) (omega arith) (omega arith)
-
-digit-and : (a b : ℕ) → a < 2 → b < 2 → eqb (min a b) 1 ≡ eqb a 1 && eqb b 1
-digit-and zero zero h k = refl
-digit-and zero (suc zero) h k = refl
-digit-and (suc zero) zero h k = refl
-digit-and (suc zero) (suc zero) h k = refl
-digit-and zero (suc (suc b)) h k = absurd (let z : ⊥ = omega arith in z)
-digit-and (suc zero) (suc (suc b)) h k = absurd (let z : ⊥ = omega arith in z)
-digit-and (suc (suc a)) b h k = absurd (let z : ⊥ = omega arith in z)
-
-and-odd : (a b : ℕ) → bitAnd a b % 2 ≡ min (a % 2) (b % 2)
-and-odd a b = ap (λ (n : ℕ). n % 2) (and-step a b) ∙ omega arith
-
-pub bit-and : (i a b : ℕ) → bit i (bitAnd a b) ≡ bit i a && bit i b
-unfolding bit
-bit-and i a b =
-    ap (λ (n : ℕ). eqb (n % 2) 1) (and-shr a b i) ∙ ap (λ (n : ℕ). eqb n 1) (and-odd (a / 2 ^ i) (b / 2 ^ i))
-    ∙ digit-and (a / 2 ^ i % 2) (b / 2 ^ i % 2) (omega arith) (omega arith)
 
 pub shifted : (k : ℕ) → k < 32 → 1 * 2 ^ k % 4294967296 ≡ 2 ^ k
 shifted k h = shl-exact 1 k 32 (omega arith) (omega arith) ∙ one-mul (2 ^ k)

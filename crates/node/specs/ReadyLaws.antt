@@ -28,7 +28,8 @@ use Rattle.el.specs.Assignment.{reaches}
 use Rattle.el.specs.Walk.{Node, entryVariables, entriesVariables, lineVariables, settled}
 use Rattle.el.specs.NodeLaws.{settled-chosen, settled-reached, settled-make}
 use Rattle.node.specs.Node.{Masks, isAmong, leftTo, rowOf, Shows, settledBy, leadsBy}
-use Rattle.node.specs.MaskLaws.{or-none, and-none, and-all, masks-none, masks-or, high-none, none-high, same-bits, bit-and}
+use Rattle.order.specs.BitLaws.{bit-and}
+use Rattle.node.specs.MaskLaws.{or-none, and-none, and-all, masks-none, masks-or, high-none, none-high, same-bits}
 use Rattle.node.specs.CodeLaws.{mask-one}
 use Rattle.node.specs.SquareLaws.{reaches-unchosen}
 

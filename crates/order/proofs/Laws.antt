@@ -10,11 +10,11 @@
 --   any-.., all-..                      == a loop over numbers begins, and ends
 --   RowAsk, AtomAsk                     == what is asked of each row, of each atom of the right set
 --   set-constant, set-rows              == a conjunction below a constant, and below a restriction
+--   missing-atoms                       == only the atoms that the left set has not are asked
 --   filler-flat, filler-atoms           == a filler below a filler
 --   few-atoms, given                    == what the two questions are given
 --   line-inside, left-.., right-..      == what the bytes of a line say
---   EntryAsk, LineAsk                   == what is asked of each left entry, of each atom of the right entry
---   left-entries                        == some left entry lies below an atom
+--   left-start, left-step, left-whole   == the loop that joins the left entries' sets
 --   line-atoms                          == the line holds
 use mathlib.Core.Path.{_≡_, refl, sym, ap, ap₂, subst, _∙_}
 use mathlib.Core.Bool.{Bool, true, false, _&&_, _||_, not}
@@ -26,11 +26,13 @@ use native.Mathlib.Nat.{one-mul, mod-eq-of-lt, zero-div}
 use native.Mathlib.Decide.{decLt}
 use lib.Dec.{T, eqb, ltb}
 use lib.ListN.{length, getD}
+use lib.Bits.{bitOr, bitAnd, bitXor}
 use lib.Pow.{pow-lt, shr-shr}
 use borrow.Author.Tests.{eq-eqb, ne-eqb, lt-ltb, le-ltb}
 use Rattle.el.specs.Description.{sameRole}
-use Rattle.el.specs.Test.{anyBelow, allBelow, anyOf, everyOf, bit}
-use Rattle.el.specs.TestLaws.{and-right, anyOf-hit, anyOf-found, everyOf-at, same-test, false-not, anyBelow-hit, anyBelow-found, anyBelow-none, anyBelow-same, anyBelow-false-at, allBelow-every, allBelow-true-at}
+use Rattle.el.specs.OrderLaws.{sameRole-refl}
+use Rattle.el.specs.Test.{anyBelow, allBelow, everyOf, bit}
+use Rattle.el.specs.TestLaws.{and-right, everyOf-at, same-test, false-not, anyBelow-hit, anyBelow-found, anyBelow-none, anyBelow-same, anyBelow-false-at, allBelow-every, allBelow-same, allBelow-true-at}
 use Rattle.el.specs.Table.{Filler, topF, constantF, variableF, Entry, constant, restriction, variable, Line, Table, rowAt, atoms, rowDeclared, lineDeclared, declared}
 use Rattle.el.specs.Meaning.{holds}
 use Rattle.el.specs.Assignment.{Assignment, setOf, acyclic, induced}
@@ -40,8 +42,9 @@ use Rattle.table.specs.Code.{kindOf, fillerOf, fillerOfKind, entryOf, entryOfKi
 use Rattle.table.specs.Reading.{byteAt, reading, isReadable, tableOf}
 use Rattle.table.specs.Layout.{lineAt, lineStart, Layout}
 use Rattle.table.specs.LayoutLaws.{within-some, layout}
-use Rattle.order.specs.Rule.{fillerSet, entrySet, atomRow, isConstant, flatTest, atomTest, setTest, fillerTest, entryTest, leftTest, lineTest}
-use Rattle.order.specs.RuleLaws.{any-one, line-rule}
+use Rattle.order.specs.BitLaws.{bit-missing}
+use Rattle.order.specs.Rule.{fillerSet, entrySet, unionTo, leftSet, atomRow, isConstant, flatTest, atomTest, setTest, fillerTest, leftTest, lineTest}
+use Rattle.order.specs.RuleLaws.{any-one, left-union, set-itself, line-rule}
 use Rattle.order.specs.Given.{fillerFromKind, fillerFrom, entryFromKind, entryFrom, IsFiller, IsEntry, Given, setBelow, fillerBelow}
 
 ----------------------------------------------------------------------------------------------------
@@ -378,18 +381,37 @@ module _ (s : List ℕ) (a : Assignment) (d L R j : ℕ) where
       go i (yes l) = allBelow-true-at j i (AtomAsk s a d L R) before l
       go i (no l) = rw (rest-none R j i z (omega arith))
 
+-- an atom that both sets have is below by itself: the missing ones are asked alone
+asked-alone : (x y z : Bool) → (y ≡ true → z ≡ true) → not x || z ≡ not (x && not y) || z
+asked-alone true true z f = f refl
+asked-alone true false z f = refl
+asked-alone false y z f = refl
+
+missing-atoms : (s : List ℕ) (a : Assignment) (c e : ℕ) → Given s a c e → (d L R : ℕ)
+    → allBelow (c + e) (λ j. not (bit j R) || setBelow s a d L j) ≡ allBelow (c + e) (AtomAsk s a d L (bitXor R (bitAnd R L)))
+unfolding AtomAsk
+missing-atoms s a c e q d L R =
+    allBelow-same (c + e) (λ j. not (bit j R) || setBelow s a d L j) (AtomAsk s a d L (bitXor R (bitAnd R L)))
+    (λ j h. asked-alone (bit j R) (bit j L) (setBelow s a d L j) (itself j h) ∙ ap (λ b. not b || setBelow s a d L j) (sym (bit-missing j L R)))
+  where
+    itself : (j : ℕ) → j < c + e → bit j L ≡ true → setBelow s a d L j ≡ true
+    itself j h b =
+        unfold setBelow in
+            set-itself sameRole (tableOf s) (layout s (q .readable) .all-declared) a sameRole-refl d L j (subst (λ (n : ℕ). j < n) (sym (atom-count s a c e q)) h) b
+
 pub filler-flat : (s : List ℕ) (a : Assignment) (d f g : ℕ) → d ≡ 0 → flatTest (fillerFrom f) (fillerFrom g) ≡ fillerBelow s a d f g
 unfolding fillerBelow fillerTest
 filler-flat s a d f g e = rw e
 
 pub filler-atoms : (s : List ℕ) (a : Assignment) (c e : ℕ) → Given s a c e → (d f g L R : ℕ) → (d ≡ 0 → ⊥) → L ≡ fillerSet a (fillerFrom f) → R ≡ fillerSet a (fillerFrom g)
-    → fillerBelow s a d f g ≡ allBelow (c + e) (AtomAsk s a (d - 1) L R)
-unfolding fillerBelow fillerTest AtomAsk setBelow
+    → fillerBelow s a d f g ≡ allBelow (c + e) (AtomAsk s a (d - 1) L (bitXor R (bitAnd R L)))
+unfolding fillerBelow fillerTest setBelow
 filler-atoms s a c e q zero f g L R n l r = absurd (n refl)
 filler-atoms s a c e q (suc d) f g L R n l r =
     ap (λ (m : ℕ). allBelow m (λ j. not (bit j (fillerSet a (fillerFrom g))) || setTest sameRole (tableOf s) (fillerTest sameRole (tableOf s) a d) (fillerSet a (fillerFrom f)) j)) (atom-count s a c e q)
     ∙ ap₂ (λ x y. allBelow (c + e) (λ j. not (bit j y) || setTest sameRole (tableOf s) (fillerTest sameRole (tableOf s) a d) x j)) (sym l) (sym r)
     ∙ ap (λ (k : ℕ). allBelow (c + e) (λ j. not (bit j R) || setTest sameRole (tableOf s) (fillerTest sameRole (tableOf s) a k) L j)) (less d)
+    ∙ missing-atoms s a c e q (suc d - 1) L R
   where
     less : (k : ℕ) → k ≡ suc k - 1
     less k = omega arith
@@ -447,81 +469,52 @@ module _ (s : List ℕ) (ok : T (isReadable (reading s))) (n at : ℕ) (few : n 
     unfolding IsEntry
     right-entry = rw many (right-code ∙ ap some (sym right-from))
 
--- a test over a list asks each place
-any-places : {A : Type 0} (p : A → Bool) (l : List A) (d : A) → anyOf p l ≡ anyBelow (length l) (λ i. p (getD l i d))
-any-places p l d =
-    same-test (anyOf p l) (anyBelow (length l) (λ i. p (getD l i d)))
-    (λ u. let r = anyOf-found p l d u in anyBelow-hit (length l) (r .0) (λ i. p (getD l i d)) (r .1) (r .2))
-    (λ u. let r = anyBelow-found (length l) (λ i. p (getD l i d)) u in anyOf-hit p l (r .0) d (r .1) (r .2))
-
--- what is asked of left entry i: does its set lie below atom j
-unfoldable pub EntryAsk : List ℕ → Assignment → ℕ → ℕ → ℕ → ℕ → Bool
-EntryAsk s a v at j i = setBelow s a v (entrySet (tableOf s) a (entryFrom (byteAt s (at + 1 + i)))) j
-
-module _ (s : List ℕ) (a : Assignment) (v at j i S : ℕ) (set : S ≡ entrySet (tableOf s) a (entryFrom (byteAt s (at + 1 + i)))) where
-  pub entry-answer : (b : Bool) → setBelow s a v S j ≡ b → EntryAsk s a v at j i ≡ b
-  unfolding EntryAsk
-  entry-answer b e = ap (λ (R : ℕ). setBelow s a v R j) (sym set) ∙ e
-
+-- the union of the first i left entries' sets
 module _ (s : List ℕ) (a : Assignment) (ok : T (isReadable (reading s))) (n at : ℕ) (few : n < byteAt s 9) (begins : at ≡ lineStart s n) (p : ℕ) (many : p ≡ byteAt s at) where
-  pub left-entries : (v : ℕ) → v ≡ byteAt s 7 → (j : ℕ) → leftTest sameRole (tableOf s) a (lineAt (tableOf s .lines) n .left) j ≡ anyBelow p (EntryAsk s a v at j)
-  unfolding leftTest entryTest EntryAsk setBelow
-  left-entries v w j =
-      any-places (λ x. setTest sameRole (tableOf s) (fillerTest sameRole (tableOf s) a (tableOf s .variables)) (entrySet (tableOf s) a x) j) (lineAt (tableOf s .lines) n .left) (constant 0)
-      ∙ ap (λ (k : ℕ). anyBelow k asked) (left-length s ok n at few begins ∙ sym many)
-      ∙ anyBelow-same p asked (EntryAsk s a v at j) same
+  pub left-start : 0 ≡ unionTo (tableOf s) a (lineAt (tableOf s .lines) n .left) 0
+  unfolding unionTo
+  left-start = refl
+
+  pub left-step : (i L S : ℕ) → i < p → L ≡ unionTo (tableOf s) a (lineAt (tableOf s .lines) n .left) i → S ≡ entrySet (tableOf s) a (entryFrom (byteAt s (at + 1 + i))) → bitOr L S ≡ unionTo (tableOf s) a (lineAt (tableOf s .lines) n .left) (i + 1)
+  unfolding unionTo
+  left-step i L S h e f =
+      ap₂ bitOr e (f ∙ ap (entrySet (tableOf s) a) (left-from s ok n at few begins i (omega arith)))
+      ∙ ap (unionTo (tableOf s) a (lineAt (tableOf s .lines) n .left)) (next i)
     where
-      asked : ℕ → Bool
-      asked i = setTest sameRole (tableOf s) (fillerTest sameRole (tableOf s) a (tableOf s .variables)) (entrySet (tableOf s) a (getD (lineAt (tableOf s .lines) n .left) i (constant 0))) j
+      next : (k : ℕ) → suc k ≡ k + 1
+      next k = omega arith
 
-      same : (i : ℕ) → i < p → asked i ≡ EntryAsk s a v at j i
-      same i h =
-          ap₂ (λ (k : ℕ) x. setTest sameRole (tableOf s) (fillerTest sameRole (tableOf s) a k) (entrySet (tableOf s) a x) j)
-          (layout s ok .variables ∙ sym w) (sym (left-from s ok n at few begins i (omega arith)))
-
--- what is asked of atom j: is it in the right entry's set R, then some left entry lies below it
-unfoldable pub LineAsk : List ℕ → Assignment → ℕ → ℕ → ℕ → Bool
-LineAsk s a n R j = not (bit j R) || leftTest sameRole (tableOf s) a (lineAt (tableOf s .lines) n .left) j
-
-module _ (s : List ℕ) (a : Assignment) (n R j : ℕ) where
-  pub line-off : bit j R ≡ false → LineAsk s a n R j ≡ true
-  unfolding LineAsk
-  line-off e = rw e
-
-  pub line-true : leftTest sameRole (tableOf s) a (lineAt (tableOf s .lines) n .left) j ≡ true → LineAsk s a n R j ≡ true
-  unfolding LineAsk
-  line-true e = rw e (or-yes (not (bit j R)))
-
-  pub line-false : bit j R ≡ true → leftTest sameRole (tableOf s) a (lineAt (tableOf s .lines) n .left) j ≡ false → LineAsk s a n R j ≡ false
-  unfolding LineAsk
-  line-false e f = rw (e, f)
-
-  pub line-rest : (m : ℕ) → allBelow j (LineAsk s a n R) ≡ true → R / 2 ^ j ≡ 0 → allBelow m (LineAsk s a n R) ≡ true
-  unfolding LineAsk
-  line-rest m before z = allBelow-every m (LineAsk s a n R) (λ i h. go i (decLt i j))
-    where
-      go : (i : ℕ) → Dec (i < j) → LineAsk s a n R i ≡ true
-      go i (yes l) = allBelow-true-at j i (LineAsk s a n R) before l
-      go i (no l) = rw (rest-none R j i z (omega arith))
+  pub left-whole : (i L : ℕ) → p ≤ i → i ≤ p → L ≡ unionTo (tableOf s) a (lineAt (tableOf s .lines) n .left) i → L ≡ leftSet (tableOf s) a (lineAt (tableOf s .lines) n .left)
+  unfolding leftSet
+  left-whole i L h l e =
+      e ∙ ap (unionTo (tableOf s) a (lineAt (tableOf s .lines) n .left)) (let q : i ≡ p = omega arith in q ∙ many ∙ sym (left-length s ok n at few begins))
 
 line-declared : (t : Table) → T (declared t) → (n : ℕ) → n < length (t .lines) → T (lineDeclared t (lineAt (t .lines) n))
 unfolding declared lineAt
 line-declared t u n h = everyOf-at (lineDeclared t) (t .lines) n (record { left = []; right = constant 0 }) (and-right (everyOf (rowDeclared t) (t .rows)) (everyOf (lineDeclared t) (t .lines)) u) h
 
-pub line-atoms : (s : List ℕ) (a : Assignment) (c e : ℕ) → Given s a c e → T (acyclic (tableOf s) a)
-    → (n at : ℕ) → n < byteAt s 9 → at ≡ lineStart s n → (p : ℕ) → p ≡ byteAt s at → (R : ℕ) → R ≡ entrySet (tableOf s) a (entryFrom (byteAt s (at + 1 + p)))
-    → holds sameRole (tableOf s .rows) (induced (tableOf s) a) (lineAt (tableOf s .lines) n) ≡ allBelow (c + e) (LineAsk s a n R)
-unfolding LineAsk
-line-atoms s a c e g calm n at few begins p many R set =
+pub line-atoms : (s : List ℕ) (a : Assignment) (c e : ℕ) → Given s a c e → T (acyclic (tableOf s) a) → (v : ℕ) → v ≡ byteAt s 7
+    → (n at : ℕ) → n < byteAt s 9 → at ≡ lineStart s n → (p : ℕ) → p ≡ byteAt s at
+    → (L : ℕ) → L ≡ leftSet (tableOf s) a (lineAt (tableOf s .lines) n .left) → (R : ℕ) → R ≡ entrySet (tableOf s) a (entryFrom (byteAt s (at + 1 + p)))
+    → holds sameRole (tableOf s .rows) (induced (tableOf s) a) (lineAt (tableOf s .lines) n) ≡ allBelow (c + e) (AtomAsk s a v L (bitXor R (bitAnd R L)))
+line-atoms s a c e g calm v many-variables n at few begins p many L union R set =
     sym (line-rule sameRole (tableOf s) (l .all-declared) a calm (lineAt (tableOf s .lines) n) (line-declared (tableOf s) (l .all-declared) n (subst (λ (k : ℕ). n < k) (sym (l .lines)) few)))
     ∙ opened (lineAt (tableOf s .lines) n)
     ∙ ap₂ (λ (k S : ℕ). allBelow k (λ j. not (bit j S) || leftTest sameRole (tableOf s) a (lineAt (tableOf s .lines) n .left) j)) (atom-count s a c e g) (sym right)
+    ∙ allBelow-same (c + e) (λ j. not (bit j R) || leftTest sameRole (tableOf s) a (lineAt (tableOf s .lines) n .left) j) (λ j. not (bit j R) || setBelow s a v L j) (λ j h. ap (λ b. not (bit j R) || b) (left j))
+    ∙ missing-atoms s a c e g v L R
   where
     l : Layout s (tableOf s)
     l = layout s (g .readable)
 
     opened : (x : Line) → lineTest sameRole (tableOf s) a x ≡ allBelow (atoms (tableOf s)) (λ j. not (bit j (entrySet (tableOf s) a (x .right))) || leftTest sameRole (tableOf s) a (x .left) j)
     opened x = unfold lineTest in refl
+
+    left : (j : ℕ) → leftTest sameRole (tableOf s) a (lineAt (tableOf s .lines) n .left) j ≡ setBelow s a v L j
+    left j =
+        left-union sameRole (tableOf s) a (lineAt (tableOf s .lines) n .left) j
+        ∙ ap₂ (λ (k S : ℕ). setTest sameRole (tableOf s) (fillerTest sameRole (tableOf s) a k) S j) (l .variables ∙ sym many-variables) (sym union)
+        ∙ unfold setBelow in refl
 
     right : R ≡ entrySet (tableOf s) a (lineAt (tableOf s .lines) n .right)
     right = set ∙ ap (entrySet (tableOf s) a) (ap (λ (k : ℕ). entryFrom (byteAt s (at + 1 + k))) many ∙ right-from s (g .readable) n at few begins)

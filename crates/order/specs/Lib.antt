@@ -1,3 +1,4 @@
+pub mod BitLaws
 pub mod Rule
 pub mod RuleLaws
 pub mod Given

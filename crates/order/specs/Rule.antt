@@ -2,6 +2,8 @@
 --
 --   fillerSet a f             == the set of the filler f: what its conjuncts are, where a gives the variables their sets
 --   entrySet t a x            == the set of the entry x
+--   unionTo t a l i           == the union of the sets of the first i entries of l
+--   leftSet t a l             == the set of the left entries l: the union of their sets
 --   atomTest under t fb i j   == atom i lies below atom j, where fb answers for fillers
 --   setTest under t fb s j    == the conjunction of the set s lies below atom j, where fb answers for fillers
 --   fillerTest under t a k f g == the filler f lies below the filler g, where k dependences are left
@@ -11,6 +13,8 @@ use mathlib.Core.Bool.{Bool, true, false, _&&_, _||_, not}
 use mathlib.Core.List.{List}
 use Prim.Native.Nat.{ℕ, zero, suc, _+_, _-_, _^_}
 use lib.Dec.{eqb, ltb}
+use lib.ListN.{length, getD}
+use lib.Bits.{bitOr}
 use Rattle.el.specs.Test.{anyBelow, allBelow, anyOf, bit}
 use Rattle.el.specs.Table.{Filler, topF, constantF, variableF, Entry, constant, restriction, variable, Row, Line, Table, rowAt, atoms}
 use Rattle.el.specs.Assignment.{Assignment, setOf}
@@ -25,6 +29,14 @@ unfoldable pub entrySet : Table → Assignment → Entry → ℕ
 entrySet t a (constant k) = 2 ^ k
 entrySet t a (restriction k) = 2 ^ (t .constants + k)
 entrySet t a (variable x) = setOf a x
+
+-- the left side is the conjunction of its entries
+unfoldable pub unionTo : Table → Assignment → List Entry → ℕ → ℕ
+unionTo t a l zero = 0
+unionTo t a l (suc i) = bitOr (unionTo t a l i) (entrySet t a (getD l i (constant 0)))
+
+unfoldable pub leftSet : Table → Assignment → List Entry → ℕ
+leftSet t a l = unionTo t a l (length l)
 
 -- the row of the restriction whose atom number is i
 unfoldable pub atomRow : Table → ℕ → Row

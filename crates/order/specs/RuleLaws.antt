@@ -11,6 +11,9 @@
 --   says-filler, says-entry == a filler's, an entry's set says what it says with the substitution carried out
 --   sets-agree       == the left set lies below each atom of the right one: the order between what the two say
 --   rule             == the two questions answer the order between two fillers with the assignment carried out
+--   set-or           == a union lies below an atom where one of the two sets does
+--   left-union       == the left entries lie below an atom where the union of their sets does
+--   set-itself       == a set lies below each of its atoms
 --   line-rule        == the line test answers whether the induced substitution makes the line true
 use mathlib.Core.Path.{_≡_, refl, sym, ap, ap₂, subst, _∙_}
 use mathlib.Core.Bool.{Bool, true, false, _&&_, _||_, not}
@@ -20,17 +23,20 @@ use native.Mathlib.Omega.{arith}
 use native.Mathlib.Nat.{pow-suc, div-eq-of-lt, div-self, mul-div-cancel}
 use native.Mathlib.Decide.{ℕ-discrete, decLt}
 use lib.Dec.{T, eqb, ltb, eqb→eq, eqb-refl, ltb→lt}
-use lib.ListN.{length}
+use lib.ListN.{length, getD}
+use lib.Bits.{bitOr}
 use lib.Pow.{pow-pos, pow-lt, pow-add}
 use borrow.Author.Tests.{eq-eqb, ne-eqb, le-ltb, ltb-true, ltb-false}
 use Rattle.el.specs.Test.{anyBelow, allBelow, anyOf, everyOf, bit}
-use Rattle.el.specs.TestLaws.{is-true, same-test, true-is, and-make, and-left, and-right, anyBelow-hit, anyBelow-found, anyBelow-none, anyBelow-same, allBelow-at, allBelow-all, allBelow-same, allBelow-every, bit-none}
+use Rattle.el.specs.TestLaws.{is-true, same-test, true-is, and-make, and-left, and-right, anyBelow-hit, anyBelow-found, anyBelow-none, anyBelow-same, anyBelow-true-at, anyOf-hit, anyOf-found, allBelow-at, allBelow-all, allBelow-same, allBelow-every, bit-none}
 use Rattle.el.specs.Description.{Description, top, name, meet, some, below}
+use Rattle.el.specs.OrderLaws.{below-refl}
 use Rattle.el.specs.Table.{Filler, topF, constantF, variableF, Entry, constant, restriction, variable, Row, Line, Table, rowAt, atoms, fillerDeclared, rowDeclared, entryDeclared, lineDeclared, declared}
 use Rattle.el.specs.Meaning.{Substitution, fillerUnder, rowUnder, entryUnder, leftUnder, holds}
 use Rattle.el.specs.Assignment.{Assignment, setOf, acyclic, atomUnder, conjoin, setUnder, inducedTo, induced}
 use Rattle.el.specs.InducedLaws.{conjoin-below, conjoin-name, conjoin-some, induced-at}
-use Rattle.order.specs.Rule.{fillerSet, entrySet, atomRow, flatTest, atomTest, setTest, fillerTest, entryTest, leftTest, lineTest}
+use Rattle.order.specs.BitLaws.{bit-or}
+use Rattle.order.specs.Rule.{fillerSet, entrySet, unionTo, leftSet, atomRow, flatTest, atomTest, setTest, fillerTest, entryTest, leftTest, lineTest}
 
 ----------------------------------------------------------------------------------------------------
 -- Bits
@@ -203,6 +209,55 @@ module _ (under : ℕ → ℕ → Bool) (t : Table) where
     sets-agree S R D E s r =
         allBelow-same (atoms t) (λ j. not (bit j R) || setTest under t fb S j) (λ j. not (bit j R) || below under D (atomUnder t σ j)) (λ j h. ap (λ b. not (bit j R) || b) (s .as-left j)) ∙ sym (r .as-right D)
 
+----------------------------------------------------------------------------------------------------
+-- Unions
+
+spread : (x y a b q : Bool) → (x || y) || ((a || b) && q) ≡ (x || (a && q)) || (y || (b && q))
+spread true y a b q = refl
+spread false true true b true = refl
+spread false true true b false = refl
+spread false true false b q = refl
+spread false false true b true = refl
+spread false false true true false = refl
+spread false false true false false = refl
+spread false false false b q = refl
+
+any-or : (n A B : ℕ) (q : ℕ → Bool) → anyBelow n (λ i. bit i (bitOr A B) && q i) ≡ anyBelow n (λ i. bit i A && q i) || anyBelow n (λ i. bit i B && q i)
+unfolding anyBelow
+any-or zero A B q = refl
+any-or (suc n) A B q =
+    ap₂ (λ x y. x || (y && q n)) (any-or n A B q) (bit-or n A B)
+    ∙ spread (anyBelow n (λ i. bit i A && q i)) (anyBelow n (λ i. bit i B && q i)) (bit n A) (bit n B) (q n)
+
+-- a test over a list asks each place
+any-places : {A : Type 0} (p : A → Bool) (l : List A) (d : A) → anyOf p l ≡ anyBelow (length l) (λ i. p (getD l i d))
+any-places p l d =
+    same-test (anyOf p l) (anyBelow (length l) (λ i. p (getD l i d)))
+    (λ u. let r = anyOf-found p l d u in anyBelow-hit (length l) (r .0) (λ i. p (getD l i d)) (r .1) (r .2))
+    (λ u. let r = anyBelow-found (length l) (λ i. p (getD l i d)) u in anyOf-hit p l (r .0) d (r .1) (r .2))
+
+module _ (under : ℕ → ℕ → Bool) (t : Table) where
+  pub set-or : (fb : Filler → Filler → Bool) (A B j : ℕ) → setTest under t fb (bitOr A B) j ≡ setTest under t fb A j || setTest under t fb B j
+  unfolding setTest
+  set-or fb A B j = any-or (atoms t) A B (λ i. atomTest under t fb i j)
+
+  module _ (a : Assignment) (l : List Entry) (j : ℕ) where
+    union-asks : (fb : Filler → Filler → Bool) (i : ℕ) → setTest under t fb (unionTo t a l i) j ≡ anyBelow i (λ k. setTest under t fb (entrySet t a (getD l k (constant 0))) j)
+    unfolding unionTo anyBelow
+    union-asks fb zero = none
+      where
+        none : setTest under t fb 0 j ≡ false
+        none = unfold setTest in any-no (λ i. bit i 0) (λ i. atomTest under t fb i j) (atoms t) bit-none
+    union-asks fb (suc i) =
+        set-or fb (unionTo t a l i) (entrySet t a (getD l i (constant 0))) j
+        ∙ ap (λ b. b || setTest under t fb (entrySet t a (getD l i (constant 0))) j) (union-asks fb i)
+
+    pub left-union : leftTest under t a l j ≡ setTest under t (fillerTest under t a (t .variables)) (leftSet t a l) j
+    unfolding leftTest entryTest leftSet
+    left-union =
+        any-places (λ x. setTest under t (fillerTest under t a (t .variables)) (entrySet t a x) j) l (constant 0)
+        ∙ sym (union-asks (fillerTest under t a (t .variables)) (length l))
+
 -- constant k is atom k, restriction k is atom c + k
 atom-constant : (t : Table) (σ : Substitution) (k : ℕ) → T (ltb k (t .constants)) → atomUnder t σ k ≡ name k
 unfolding atomUnder
@@ -265,6 +320,18 @@ module _ (under : ℕ → ℕ → Bool) (t : Table) (fine : T (declared t)) (a :
           sets-agree under t (fillerTest under t a k) (inducedTo t a k) agree (fillerSet a f) (fillerSet a g) (fillerUnder (inducedTo t a (suc k)) f) (fillerUnder (inducedTo t a (suc k)) g)
           (says-filler under t (fillerTest under t a k) (inducedTo t a k) agree a (inducedTo t a (suc k)) (λ x h. refl) f u)
           (says-filler under t (fillerTest under t a k) (inducedTo t a k) agree a (inducedTo t a (suc k)) (λ x h. refl) g v)
+
+  -- where each role lies below itself, so does each atom
+  module _ (under-refl : (r : ℕ) → T (under r r)) where
+    atom-itself : (k j : ℕ) → atomTest under t (fillerTest under t a k) j j ≡ true
+    unfolding Answers
+    atom-itself k j =
+        atom-agrees under t (fillerTest under t a k) (inducedTo t a k) (λ i m. rule k (atomRow t i .filler) (atomRow t m .filler) (atom-declared t fine i) (atom-declared t fine m)) j j
+        ∙ is-true (below under (atomUnder t (inducedTo t a k) j) (atomUnder t (inducedTo t a k) j)) (below-refl under under-refl (atomUnder t (inducedTo t a k) j))
+
+    pub set-itself : (k S j : ℕ) → j < atoms t → bit j S ≡ true → setTest under t (fillerTest under t a k) S j ≡ true
+    unfolding setTest
+    set-itself k S j h e = anyBelow-true-at (atoms t) j (λ i. bit i S && atomTest under t (fillerTest under t a k) i j) h (ap₂ _&&_ e (atom-itself k j))
 
   rows-answer : Answers under t (fillerTest under t a (t .variables)) (induced t a)
   unfolding Answers induced

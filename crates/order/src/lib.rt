@@ -12,7 +12,7 @@ ghost use Rattle.el.specs.Assignment.{induced};
 ghost use Rattle.el.specs.Meaning.{holds};
 ghost use Rattle.table.specs.Reading.{byteAt, tableOf};
 ghost use Rattle.table.specs.Layout.{lineAt, lineStart};
-ghost use Rattle.order.specs.Rule.{isConstant, flatTest, fillerSet, entrySet, leftTest};
+ghost use Rattle.order.specs.Rule.{isConstant, flatTest, fillerSet, entrySet, leftSet};
 ghost use Rattle.order.specs.Given.{fillerFrom, entryFrom, IsFiller, IsEntry, Given, LineGiven, setBelow, fillerBelow};
 
 // Where the restriction rows begin.
@@ -115,7 +115,8 @@ fn set_below(table: &[u8], set: &[u32], c: usize, e: usize, s: u32, j: usize, de
     false
 }
 
-// Filler f lies below filler g: the conjunction of f's set lies below each atom of g's.
+// Filler f lies below filler g: the conjunction of f's set lies below each atom of g's. An atom that both sets have lies
+// below itself, so only the missing ones are asked.
 fn filler_below(table: &[u8], set: &[u32], c: usize, e: usize, f: u8, g: u8, depth: usize) -> bool
     requires { ⌜ Given (now table) (now set) c e × IsFiller (now table) f × IsFiller (now table) g ⌝ }
     ensures { λ r. ⌜ r ≡ fillerBelow (now (table .entry)) (now (set .entry)) depth f g ⌝ }
@@ -125,9 +126,10 @@ fn filler_below(table: &[u8], set: &[u32], c: usize, e: usize, f: u8, g: u8, dep
     }
     let left = filler_set(table, set, c, e, f);
     let right = filler_set(table, set, c, e, g);
+    let missing = right ^ (right & left);
     let mut j = 0;
     while j < c + e {
-        let rest = right >> j;
+        let rest = missing >> j;
         if rest == 0 {
             return true;
         }
@@ -141,30 +143,19 @@ fn filler_below(table: &[u8], set: &[u32], c: usize, e: usize, f: u8, g: u8, dep
     true
 }
 
-// Some left entry of line n, which begins at the byte `at`, lies below atom j.
-fn left_below(
-    table: &[u8],
-    set: &[u32],
-    c: usize,
-    e: usize,
-    v: usize,
-    n: usize,
-    at: usize,
-    j: usize,
-) -> bool
-    requires { ⌜ Given (now table) (now set) c e × (v ≡ byteAt (now table) 7) × (n < byteAt (now table) 9) × (at ≡ lineStart (now table) n) × (j < c + e) ⌝ }
-    ensures { λ r. ⌜ r ≡ leftTest sameRole (tableOf (now (table .entry))) (now (set .entry)) (lineAt (tableOf (now (table .entry)) .lines) n .left) j ⌝ }
+// The set of the left side of line n, which begins at the byte `at`: the union of its entries' sets.
+fn left_set(table: &[u8], set: &[u32], c: usize, e: usize, n: usize, at: usize) -> u32
+    requires { ⌜ Given (now table) (now set) c e × (n < byteAt (now table) 9) × (at ≡ lineStart (now table) n) ⌝ }
+    ensures { λ r. ⌜ r ≡ leftSet (tableOf (now (table .entry))) (now (set .entry)) (lineAt (tableOf (now (table .entry)) .lines) n .left) ⌝ }
 {
     let p = wide(table[at]);
+    let mut left = 0u32;
     let mut i = 0;
     while i < p {
-        let s = entry_set(table, set, c, e, table[at + 1 + i]);
-        if set_below(table, set, c, e, s, j, v) {
-            return true;
-        }
+        left = left | entry_set(table, set, c, e, table[at + 1 + i]);
         i += 1;
     }
-    false
+    left
 }
 
 // Line n, which begins at the byte `at`, holds under the substitution that the sets induce.
@@ -181,15 +172,17 @@ pub fn line_holds(
     ensures { λ r. ⌜ r ≡ holds sameRole (tableOf (now (table .entry)) .rows) (induced (tableOf (now (table .entry))) (now (set .entry))) (lineAt (tableOf (now (table .entry)) .lines) n) ⌝ }
 {
     let p = wide(table[at]);
+    let left = left_set(table, set, c, e, n, at);
     let right = entry_set(table, set, c, e, table[at + 1 + p]);
+    let missing = right ^ (right & left);
     let mut j = 0;
     while j < c + e {
-        let rest = right >> j;
+        let rest = missing >> j;
         if rest == 0 {
             return true;
         }
         if rest % 2 == 1 {
-            if !left_below(table, set, c, e, v, n, at, j) {
+            if !set_below(table, set, c, e, left, j, v) {
                 return false;
             }
         }

@@ -1,5 +1,5 @@
 -- The two questions meet their contracts. The measure is twice the dependences left, one more for the conjunction's question.
--- The loop of `set_below`: no row passed so far lies below the atom; of `filler_below`: each atom passed so far has the left set below it.
+-- The loop of `set_below`: no row passed so far lies below the atom; of `filler_below`: each missing atom passed so far has the left set below it.
 use mathlib.Core.Path.{_≡_, sym, _∙_}
 use mathlib.Core.Bool.{true, false}
 use mathlib.Core.Logic.{⊎-elim}
@@ -50,10 +50,10 @@ set-below-below t =
     and 2 set-below-kinds.ps (falls 2 set-below-kinds.ps _<_ μ-set-below t) set-below.Pre
 
 abbrev filler-below-Inv-loop : filler-below-lts.InvT-loop
-filler-below-Inv-loop table set c e f g depth left right j₀ j = (j ≤ c + e) × (allBelow j (AtomAsk table set (depth - 1) left right) ≡ true)
+filler-below-Inv-loop table set c e f g depth left right missing j₀ j = (j ≤ c + e) × (allBelow j (AtomAsk table set (depth - 1) left missing) ≡ true)
 
 abbrev filler-below-μ-loop : filler-below-lts.MeasureT-loop
-filler-below-μ-loop table set c e f g depth left right j₀ j = c + e - j
+filler-below-μ-loop table set c e f g depth left right missing j₀ j = c + e - j
 
 filler-below-flat-below-requires : (t : ℕ) → filler-below-lts.Need-flat-below-requires (
   flat-below-reads.Asked,

@@ -1,4 +1,4 @@
--- `order::line_holds` meets its contract. The loop: each atom passed so far that is in the right entry's set has a left entry below it.
+-- `order::line_holds` meets its contract. The loop: each atom passed so far that the right entry's set has and the left one has not has the left set below it.
 -- The measure is what is left of the atoms.
 use mathlib.Core.Path.{_≡_, sym, _∙_}
 use mathlib.Core.Bool.{true}
@@ -9,15 +9,15 @@ use borrow.Author.Needs.{needs}
 use borrow.Author.Tests.{not-true, not-false}
 use Rattle.el.specs.Test.{allBelow}
 use Rattle.el.specs.TestLaws.{allBelow-step, allBelow-false-at}
-use Rattle.order.proofs.Laws.{bit-on, bit-off, all-start, all-end, few-atoms, given, line-inside, right-entry, LineAsk, line-off, line-true, line-false, line-rest, line-atoms}
+use Rattle.order.proofs.Laws.{bit-on, bit-off, all-start, all-end, few-atoms, given, line-inside, right-entry, AtomAsk, atom-off, atom-true, atom-false, atoms-rest, line-atoms}
 use Rattle.order.proofs.line_holds.Statement.{statement}
 use Rattle.order.proofs.line_holds.Tie as tie
 
 abbrev Inv-loop : tie.InvT-loop
-Inv-loop table set c e v n at p right j₀ j = (j ≤ c + e) × (allBelow j (LineAsk table set n right) ≡ true)
+Inv-loop table set c e v n at p left right missing j₀ j = (j ≤ c + e) × (allBelow j (AtomAsk table set v left missing) ≡ true)
 
 abbrev μ-loop : tie.MeasureT-loop
-μ-loop table set c e v n at p right j₀ j = c + e - j
+μ-loop table set c e v n at p left right missing j₀ j = c + e - j
 
 shared-slice-read-wide : tie.Need-shared-slice-read-wide Inv-loop μ-loop
 shared-slice-read-wide c = omega (arith, line-inside _ (c .before .before .before .pre .readable) _ _ (c .before .before .before .pre .line) (c .before .before .before .pre .begins))
@@ -25,41 +25,44 @@ shared-slice-read-wide c = omega (arith, line-inside _ (c .before .before .befor
 wide-requires : tie.Need-wide-requires Inv-loop μ-loop
 wide-requires c κs = search needs
 
+left-set-requires : tie.Need-left-set-requires Inv-loop μ-loop
+left-set-requires c κs = (given _ _ _ _ (c .before .before .before .before .pre .readable) (c .before .before .before .before .pre .sets) (c .before .before .before .before .pre .constants) (c .before .before .before .before .pre .restrictions), c .before .before .before .before .pre .line, c .before .before .before .before .pre .begins)
+
 add-entry-set : tie.Need-add-entry-set Inv-loop μ-loop
-add-entry-set c = omega (arith, line-inside _ (c .before .before .before .before .pre .readable) _ _ (c .before .before .before .before .pre .line) (c .before .before .before .before .pre .begins))
+add-entry-set c = omega (arith, line-inside _ (c .before .before .before .before .before .pre .readable) _ _ (c .before .before .before .before .before .pre .line) (c .before .before .before .before .before .pre .begins))
 
 add-entry-set-2 : tie.Need-add-entry-set-2 Inv-loop μ-loop
-add-entry-set-2 c = omega (arith, line-inside _ (c .before .before .before .before .pre .readable) _ _ (c .before .before .before .before .pre .line) (c .before .before .before .before .pre .begins))
+add-entry-set-2 c = omega (arith, line-inside _ (c .before .before .before .before .before .pre .readable) _ _ (c .before .before .before .before .before .pre .line) (c .before .before .before .before .before .pre .begins), c .before .wide .ensures)
 
 shared-slice-read-entry-set : tie.Need-shared-slice-read-entry-set Inv-loop μ-loop
-shared-slice-read-entry-set c = omega (arith, line-inside _ (c .before .before .before .before .before .pre .readable) _ _ (c .before .before .before .before .before .pre .line) (c .before .before .before .before .before .pre .begins), c .before .wide .ensures)
+shared-slice-read-entry-set c = omega (arith, line-inside _ (c .before .before .before .before .before .before .pre .readable) _ _ (c .before .before .before .before .before .before .pre .line) (c .before .before .before .before .before .before .pre .begins), c .before .before .wide .ensures)
 
 entry-set-requires : tie.Need-entry-set-requires Inv-loop μ-loop
-entry-set-requires c κs = (given _ _ _ _ (c .before .before .before .before .before .pre .readable) (c .before .before .before .before .before .pre .sets) (c .before .before .before .before .before .pre .constants) (c .before .before .before .before .before .pre .restrictions), right-entry _ (c .before .before .before .before .before .pre .readable) _ _ (c .before .before .before .before .before .pre .line) (c .before .before .before .before .before .pre .begins) _ (c .before .wide .ensures))
+entry-set-requires c κs = (given _ _ _ _ (c .before .before .before .before .before .before .pre .readable) (c .before .before .before .before .before .before .pre .sets) (c .before .before .before .before .before .before .pre .constants) (c .before .before .before .before .before .before .pre .restrictions), right-entry _ (c .before .before .before .before .before .before .pre .readable) _ _ (c .before .before .before .before .before .before .pre .line) (c .before .before .before .before .before .before .pre .begins) _ (c .before .before .wide .ensures))
 
 loop-holds : tie.Need-loop-holds Inv-loop μ-loop
 loop-holds c = (omega arith, all-start _)
 
 add-loop : tie.Need-add-loop Inv-loop μ-loop
-add-loop c = omega (arith, few-atoms _ _ _ (c .before .before .before .before .before .before .before .pre .readable) (c .before .before .before .before .before .before .before .pre .constants) (c .before .before .before .before .before .before .before .pre .restrictions))
+add-loop c = omega (arith, few-atoms _ _ _ (c .before .before .before .before .before .before .before .before .pre .readable) (c .before .before .before .before .before .before .before .before .pre .constants) (c .before .before .before .before .before .before .before .before .pre .restrictions))
 
 cast-rest : tie.Need-cast-rest Inv-loop μ-loop
-cast-rest c = omega (arith, few-atoms _ _ _ (c .before .before .before .before .before .before .before .before .pre .readable) (c .before .before .before .before .before .before .before .before .pre .constants) (c .before .before .before .before .before .before .before .before .pre .restrictions))
+cast-rest c = omega (arith, few-atoms _ _ _ (c .before .before .before .before .before .before .before .before .before .pre .readable) (c .before .before .before .before .before .before .before .before .before .pre .constants) (c .before .before .before .before .before .before .before .before .before .pre .restrictions))
 
 shr-rest : tie.Need-shr-rest Inv-loop μ-loop
-shr-rest c = omega (arith, few-atoms _ _ _ (c .before .before .before .before .before .before .before .before .pre .readable) (c .before .before .before .before .before .before .before .before .pre .constants) (c .before .before .before .before .before .before .before .before .pre .restrictions))
+shr-rest c = omega (arith, few-atoms _ _ _ (c .before .before .before .before .before .before .before .before .before .pre .readable) (c .before .before .before .before .before .before .before .before .before .pre .constants) (c .before .before .before .before .before .before .before .before .before .pre .restrictions))
 
 returns : tie.Need-returns Inv-loop μ-loop
-returns c = sym (line-atoms _ _ _ _ (given _ _ _ _ (c .before .before .before .before .before .before .before .before .before .pre .readable) (c .before .before .before .before .before .before .before .before .before .pre .sets) (c .before .before .before .before .before .before .before .before .before .pre .constants) (c .before .before .before .before .before .before .before .before .before .pre .restrictions)) (c .before .before .before .before .before .before .before .before .before .pre .acyclic) _ _ (c .before .before .before .before .before .before .before .before .before .pre .line) (c .before .before .before .before .before .before .before .before .before .pre .begins) _ (c .before .before .before .before .before .wide .ensures) _ (c .before .before .before .entry-set .ensures) ∙ line-rest _ _ _ _ _ _ (c .before .before .loop .inv .1) (c .if1 .taken))
+returns c = sym (line-atoms _ _ _ _ (given _ _ _ _ (c .before .before .before .before .before .before .before .before .before .before .pre .readable) (c .before .before .before .before .before .before .before .before .before .before .pre .sets) (c .before .before .before .before .before .before .before .before .before .before .pre .constants) (c .before .before .before .before .before .before .before .before .before .before .pre .restrictions)) (c .before .before .before .before .before .before .before .before .before .before .pre .acyclic) _ (c .before .before .before .before .before .before .before .before .before .before .pre .variables) _ _ (c .before .before .before .before .before .before .before .before .before .before .pre .line) (c .before .before .before .before .before .before .before .before .before .before .pre .begins) _ (c .before .before .before .before .before .before .wide .ensures) _ (c .before .before .before .before .before .left-set .ensures) _ (c .before .before .before .entry-set .ensures) ∙ atoms-rest _ _ _ _ _ _ _ (c .before .before .loop .inv .1) (c .if1 .taken))
 
-left-below-requires : tie.Need-left-below-requires Inv-loop μ-loop
-left-below-requires c κs = (given _ _ _ _ (c .before .before .before .before .before .before .before .before .before .before .pre .readable) (c .before .before .before .before .before .before .before .before .before .before .pre .sets) (c .before .before .before .before .before .before .before .before .before .before .pre .constants) (c .before .before .before .before .before .before .before .before .before .before .pre .restrictions), c .before .before .before .before .before .before .before .before .before .before .pre .variables, c .before .before .before .before .before .before .before .before .before .before .pre .line, c .before .before .before .before .before .before .before .before .before .before .pre .begins, c .before .before .loop-test .taken)
+set-below-requires : tie.Need-set-below-requires Inv-loop μ-loop
+set-below-requires c κs = (given _ _ _ _ (c .before .before .before .before .before .before .before .before .before .before .before .pre .readable) (c .before .before .before .before .before .before .before .before .before .before .before .pre .sets) (c .before .before .before .before .before .before .before .before .before .before .before .pre .constants) (c .before .before .before .before .before .before .before .before .before .before .before .pre .restrictions), c .before .before .loop-test .taken)
 
 returns-2 : tie.Need-returns-2 Inv-loop μ-loop
-returns-2 c = sym (line-atoms _ _ _ _ (given _ _ _ _ (c .before .before .before .before .before .before .before .before .before .before .before .before .pre .readable) (c .before .before .before .before .before .before .before .before .before .before .before .before .pre .sets) (c .before .before .before .before .before .before .before .before .before .before .before .before .pre .constants) (c .before .before .before .before .before .before .before .before .before .before .before .before .pre .restrictions)) (c .before .before .before .before .before .before .before .before .before .before .before .before .pre .acyclic) _ _ (c .before .before .before .before .before .before .before .before .before .before .before .before .pre .line) (c .before .before .before .before .before .before .before .before .before .before .before .before .pre .begins) _ (c .before .before .before .before .before .before .before .before .wide .ensures) _ (c .before .before .before .before .before .before .entry-set .ensures) ∙ allBelow-false-at _ _ _ (c .before .before .before .before .loop-test .taken) (line-false _ _ _ _ _ (bit-on _ _ (c .before .before .if2 .taken)) (sym (c .before .left-below .ensures) ∙ not-true _ (c .if3 .taken))))
+returns-2 c = sym (line-atoms _ _ _ _ (given _ _ _ _ (c .before .before .before .before .before .before .before .before .before .before .before .before .before .pre .readable) (c .before .before .before .before .before .before .before .before .before .before .before .before .before .pre .sets) (c .before .before .before .before .before .before .before .before .before .before .before .before .before .pre .constants) (c .before .before .before .before .before .before .before .before .before .before .before .before .before .pre .restrictions)) (c .before .before .before .before .before .before .before .before .before .before .before .before .before .pre .acyclic) _ (c .before .before .before .before .before .before .before .before .before .before .before .before .before .pre .variables) _ _ (c .before .before .before .before .before .before .before .before .before .before .before .before .before .pre .line) (c .before .before .before .before .before .before .before .before .before .before .before .before .before .pre .begins) _ (c .before .before .before .before .before .before .before .before .before .wide .ensures) _ (c .before .before .before .before .before .before .before .before .left-set .ensures) _ (c .before .before .before .before .before .before .entry-set .ensures) ∙ allBelow-false-at _ _ _ (c .before .before .before .before .loop-test .taken) (atom-false _ _ _ _ _ _ (bit-on _ _ (c .before .before .if2 .taken)) (sym (c .before .set-below .ensures) ∙ not-true _ (c .if3 .taken))))
 
 add-j : tie.Need-add-j Inv-loop μ-loop
-add-j c = omega (arith, few-atoms _ _ _ (c .before .before .before .before .before .before .before .before .before .before .pre .readable) (c .before .before .before .before .before .before .before .before .before .before .pre .constants) (c .before .before .before .before .before .before .before .before .before .before .pre .restrictions))
+add-j c = omega (arith, few-atoms _ _ _ (c .before .before .before .before .before .before .before .before .before .before .before .pre .readable) (c .before .before .before .before .before .before .before .before .before .before .before .pre .constants) (c .before .before .before .before .before .before .before .before .before .before .before .pre .restrictions))
 
 loop-less : tie.Need-loop-less Inv-loop μ-loop
 loop-less c = omega arith
@@ -68,12 +71,12 @@ loop-again : tie.Need-loop-again Inv-loop μ-loop
 loop-again c = (
   omega arith,
   allBelow-step _ _ (c .before .before .before .loop .inv .1)
-      (⊎-elim (λ w. line-true _ _ _ _ _ (sym (w .1 .ensures) ∙ not-false _ (w .2 .left)))
-      (λ w. line-off _ _ _ _ _ (bit-off _ _ (w .left))) (c .if2 .came)),
+      (⊎-elim (λ w. atom-true _ _ _ _ _ _ (sym (w .1 .ensures) ∙ not-false _ (w .2 .left)))
+      (λ w. atom-off _ _ _ _ _ _ (bit-off _ _ (w .left))) (c .if2 .came)),
 )
 
 returns-3 : tie.Need-returns-3 Inv-loop μ-loop
-returns-3 c = sym (line-atoms _ _ _ _ (given _ _ _ _ (c .before .before .before .before .before .before .before .before .pre .readable) (c .before .before .before .before .before .before .before .before .pre .sets) (c .before .before .before .before .before .before .before .before .pre .constants) (c .before .before .before .before .before .before .before .before .pre .restrictions)) (c .before .before .before .before .before .before .before .before .pre .acyclic) _ _ (c .before .before .before .before .before .before .before .before .pre .line) (c .before .before .before .before .before .before .before .before .pre .begins) _ (c .before .before .before .before .wide .ensures) _ (c .before .before .entry-set .ensures) ∙ all-end _ _ _ (c .loop-test .left) (c .before .loop .inv .0) (c .before .loop .inv .1))
+returns-3 c = sym (line-atoms _ _ _ _ (given _ _ _ _ (c .before .before .before .before .before .before .before .before .before .pre .readable) (c .before .before .before .before .before .before .before .before .before .pre .sets) (c .before .before .before .before .before .before .before .before .before .pre .constants) (c .before .before .before .before .before .before .before .before .before .pre .restrictions)) (c .before .before .before .before .before .before .before .before .before .pre .acyclic) _ (c .before .before .before .before .before .before .before .before .before .pre .variables) _ _ (c .before .before .before .before .before .before .before .before .before .pre .line) (c .before .before .before .before .before .before .before .before .before .pre .begins) _ (c .before .before .before .before .before .wide .ensures) _ (c .before .before .before .before .left-set .ensures) _ (c .before .before .entry-set .ensures) ∙ all-end _ _ _ (c .loop-test .left) (c .before .loop .inv .0) (c .before .loop .inv .1))
 
 pub line-holds-spec : {M : Type 1} → statement M
 line-holds-spec =
@@ -83,6 +86,7 @@ line-holds-spec =
     μ-loop
     shared-slice-read-wide
     wide-requires
+    left-set-requires
     add-entry-set
     add-entry-set-2
     shared-slice-read-entry-set
@@ -92,7 +96,7 @@ line-holds-spec =
     cast-rest
     shr-rest
     returns
-    left-below-requires
+    set-below-requires
     returns-2
     add-j
     loop-less

@@ -1,0 +1,85 @@
+-- The bits of numbers joined bit by bit.
+--
+--   bit-or      == the bits of `a | b`
+--   bit-and     == the bits of `a & b`
+--   bit-xor     == the bits of `a ^ b`
+--   bit-missing == the bits of `b ^ (b & a)`: what b has and a has not
+use mathlib.Core.Path.{_≡_, refl, ap, ap₂, _∙_}
+use mathlib.Core.Bool.{Bool, true, false, _&&_, _||_, not}
+use Prim.Native.Nat.{ℕ, zero, suc, _+_, _*_, _/_, _%_, _^_, _<_, min, max}
+use native.Mathlib.Omega.{arith}
+use lib.Dec.{eqb}
+use lib.Bits.{bitOr, bitAnd, bitXor, differ, or-shr, or-step, and-shr, and-step, xor-shr, xor-step}
+use Rattle.el.specs.Test.{bit}
+
+digit-or : (a b : ℕ) → a < 2 → b < 2 → eqb (max a b) 1 ≡ eqb a 1 || eqb b 1
+digit-or zero zero h k = refl
+digit-or zero (suc zero) h k = refl
+digit-or (suc zero) zero h k = refl
+digit-or (suc zero) (suc zero) h k = refl
+digit-or zero (suc (suc b)) h k = absurd (let z : ⊥ = omega arith in z)
+digit-or (suc zero) (suc (suc b)) h k = absurd (let z : ⊥ = omega arith in z)
+digit-or (suc (suc a)) b h k = absurd (let z : ⊥ = omega arith in z)
+
+or-odd : (a b : ℕ) → bitOr a b % 2 ≡ max (a % 2) (b % 2)
+or-odd a b = ap (λ (n : ℕ). n % 2) (or-step a b) ∙ omega arith
+
+pub bit-or : (i a b : ℕ) → bit i (bitOr a b) ≡ bit i a || bit i b
+unfolding bit
+bit-or i a b =
+    ap (λ (n : ℕ). eqb (n % 2) 1) (or-shr a b i) ∙ ap (λ (n : ℕ). eqb n 1) (or-odd (a / 2 ^ i) (b / 2 ^ i))
+    ∙ digit-or (a / 2 ^ i % 2) (b / 2 ^ i % 2) (omega arith) (omega arith)
+
+digit-and : (a b : ℕ) → a < 2 → b < 2 → eqb (min a b) 1 ≡ eqb a 1 && eqb b 1
+digit-and zero zero h k = refl
+digit-and zero (suc zero) h k = refl
+digit-and (suc zero) zero h k = refl
+digit-and (suc zero) (suc zero) h k = refl
+digit-and zero (suc (suc b)) h k = absurd (let z : ⊥ = omega arith in z)
+digit-and (suc zero) (suc (suc b)) h k = absurd (let z : ⊥ = omega arith in z)
+digit-and (suc (suc a)) b h k = absurd (let z : ⊥ = omega arith in z)
+
+and-odd : (a b : ℕ) → bitAnd a b % 2 ≡ min (a % 2) (b % 2)
+and-odd a b = ap (λ (n : ℕ). n % 2) (and-step a b) ∙ omega arith
+
+pub bit-and : (i a b : ℕ) → bit i (bitAnd a b) ≡ bit i a && bit i b
+unfolding bit
+bit-and i a b =
+    ap (λ (n : ℕ). eqb (n % 2) 1) (and-shr a b i) ∙ ap (λ (n : ℕ). eqb n 1) (and-odd (a / 2 ^ i) (b / 2 ^ i))
+    ∙ digit-and (a / 2 ^ i % 2) (b / 2 ^ i % 2) (omega arith) (omega arith)
+
+digit-xor : (a b : ℕ) → a < 2 → b < 2 → eqb (differ a b) 1 ≡ (eqb a 1 && not (eqb b 1)) || (not (eqb a 1) && eqb b 1)
+digit-xor zero zero h k = refl
+digit-xor zero (suc zero) h k = refl
+digit-xor (suc zero) zero h k = refl
+digit-xor (suc zero) (suc zero) h k = refl
+digit-xor zero (suc (suc b)) h k = absurd (let z : ⊥ = omega arith in z)
+digit-xor (suc zero) (suc (suc b)) h k = absurd (let z : ⊥ = omega arith in z)
+digit-xor (suc (suc a)) b h k = absurd (let z : ⊥ = omega arith in z)
+
+differ-low : (a b : ℕ) → a < 2 → b < 2 → differ a b < 2
+differ-low zero b h k = k
+differ-low (suc zero) zero h k = h
+differ-low (suc zero) (suc b) h k = omega arith
+differ-low (suc (suc a)) b h k = absurd (let z : ⊥ = omega arith in z)
+
+xor-odd : (a b : ℕ) → bitXor a b % 2 ≡ differ (a % 2) (b % 2)
+xor-odd a b = ap (λ (n : ℕ). n % 2) (xor-step a b) ∙ low (bitXor (a / 2) (b / 2)) (differ (a % 2) (b % 2)) (differ-low (a % 2) (b % 2) (omega arith) (omega arith))
+  where
+    low : (n d : ℕ) → d < 2 → (n * 2 + d) % 2 ≡ d
+    low n d h = omega arith
+
+pub bit-xor : (i a b : ℕ) → bit i (bitXor a b) ≡ (bit i a && not (bit i b)) || (not (bit i a) && bit i b)
+unfolding bit
+bit-xor i a b =
+    ap (λ (n : ℕ). eqb (n % 2) 1) (xor-shr a b i) ∙ ap (λ (n : ℕ). eqb n 1) (xor-odd (a / 2 ^ i) (b / 2 ^ i))
+    ∙ digit-xor (a / 2 ^ i % 2) (b / 2 ^ i % 2) (omega arith) (omega arith)
+
+pub bit-missing : (i a b : ℕ) → bit i (bitXor b (bitAnd b a)) ≡ bit i b && not (bit i a)
+bit-missing i a b =
+    bit-xor i b (bitAnd b a) ∙ ap (λ x. (bit i b && not x) || (not (bit i b) && x)) (bit-and i b a) ∙ apart (bit i a) (bit i b)
+  where
+    apart : (x y : Bool) → (y && not (y && x)) || (not y && (y && x)) ≡ y && not x
+    apart true true = refl
+    apart false true = refl
+    apart x false = refl

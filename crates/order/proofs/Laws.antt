@@ -397,7 +397,7 @@ missing-atoms s a c e q d L R =
     itself : (j : ℕ) → j < c + e → bit j L ≡ true → setBelow s a d L j ≡ true
     itself j h b =
         unfold setBelow in
-            set-itself sameRole (tableOf s) (layout s (q .readable) .all-declared) a sameRole-refl d L j (subst (λ (n : ℕ). j < n) (sym (atom-count s a c e q)) h) b
+        set-itself sameRole (tableOf s) (layout s (q .readable) .all-declared) a sameRole-refl d L j (subst (λ (n : ℕ). j < n) (sym (atom-count s a c e q)) h) b
 
 pub filler-flat : (s : List ℕ) (a : Assignment) (d f g : ℕ) → d ≡ 0 → flatTest (fillerFrom f) (fillerFrom g) ≡ fillerBelow s a d f g
 unfolding fillerBelow fillerTest

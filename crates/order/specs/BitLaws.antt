@@ -4,7 +4,7 @@
 --   bit-and     == the bits of `a & b`
 --   bit-xor     == the bits of `a ^ b`
 --   bit-missing == the bits of `b ^ (b & a)`: what b has and a has not
-use mathlib.Core.Path.{_≡_, refl, ap, ap₂, _∙_}
+use mathlib.Core.Path.{_≡_, refl, ap, _∙_}
 use mathlib.Core.Bool.{Bool, true, false, _&&_, _||_, not}
 use Prim.Native.Nat.{ℕ, zero, suc, _+_, _*_, _/_, _%_, _^_, _<_, min, max}
 use native.Mathlib.Omega.{arith}

@@ -6,4 +6,3 @@ pub mod ReadyLaws
 pub mod LineLaws
 pub mod DeadLaws
 pub mod NodeTestLaws
-pub mod LiveLaws

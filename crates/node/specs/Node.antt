@@ -24,16 +24,15 @@
 --   settledBy rows n x y == y is below x, and its mask has no bit from n on
 --   leadsBy rows z x y == y is below x and leads to z
 --   failsTo t s n      == one of the first n lines fails at the node s
---   Newest t s k       == the mask k has the newest variable of the node s and those that reach it
 --   LiveAbove t s      == the node above s is live
 --   NodeGiven s c e v m sets == s is a readable table with these counts, and the sets are a node of it
 --   LineTest s c e v n at sets own k == so, with line n that begins at the byte `at` and the masks of its variables and of the settled ones
 --   LinesGiven s c e v m sets mask start k == so, the node is acyclic, the masks and starts are those of the lines, k is the mask of the settled variables
 use mathlib.Core.Path.{_≡_}
-use mathlib.Core.Bool.{Bool, false, _&&_, _||_, not}
+use mathlib.Core.Bool.{Bool, false, _&&_, not}
 use mathlib.Core.List.{List, [], _∷_, _++_}
 use mathlib.Core.Option.{Option, some}
-use Prim.Native.Nat.{ℕ, _+_, _-_, _/_, _^_, _≤_, _<_}
+use Prim.Native.Nat.{ℕ, _+_, _/_, _^_, _≤_, _<_}
 use lib.Dec.{T, eqb, ltb}
 use lib.ListN.{length, getD, take}
 use Rattle.el.specs.Test.{anyBelow, allBelow, anyOf, bit}
@@ -126,9 +125,6 @@ leadsBy rows z x y = ltb y x && bit z (rowOf rows y)
 
 unfoldable pub failsTo : Table → Node → ℕ → Bool
 failsTo t s n = anyBelow n (λ i. fails sameRole t s (lineAt (t .lines) i))
-
-unfoldable pub Newest : Table → Node → ℕ → Type 0
-Newest t s k = Masks (λ x. eqb x (length s - 1) || reaches t s x (length s - 1)) k
 
 unfoldable pub LiveAbove : Table → Node → Type 0
 LiveAbove t s = (p : Node) (x : ℕ) → s ≡ p ++ (x ∷ []) → dead sameRole t p ≡ false

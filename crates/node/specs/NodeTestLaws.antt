@@ -4,38 +4,26 @@
 --   node-shows       == the square shows what the variables of the node reach
 --   node-cyclic      == where it has a cycle, the node is dead
 --   node-lines       == where it has none, the lines are to be tested
---   node-newest      == the mask of the newest variable and those that reach it
---   lines-skip       == below a live node, a line without any of these does not fail
 --   node-fails       == and the node is dead exactly if one of them fails
-use mathlib.Core.Path.{_≡_, refl, sym, ap, ap₂, subst, _∙_}
-use mathlib.Core.Bool.{Bool, true, false, _||_}
+use mathlib.Core.Path.{_≡_, sym, ap, subst, _∙_}
+use mathlib.Core.Bool.{true, false}
 use mathlib.Core.List.{List}
-use Prim.Native.Nat.{ℕ, _+_, _-_, _*_, _%_, _^_, _≤_, _<_}
+use Prim.Native.Nat.{ℕ, _+_, _≤_}
 use native.Mathlib.Omega.{arith}
-use lib.Dec.{eqb}
-use lib.ListN.{length, getD}
-use lib.Bits.{bitOr, bitAnd}
+use lib.ListN.{length}
 use Rattle.el.specs.TestLaws.{true-is}
 use Rattle.el.specs.Description.{sameRole}
-use Rattle.el.specs.Assignment.{reaches, acyclic}
-use Rattle.el.specs.Walk.{settled, fails, dead}
+use Rattle.el.specs.Assignment.{acyclic}
+use Rattle.el.specs.Walk.{settled, dead}
 use Rattle.el.specs.NodeLaws.{dead-cyclic}
 use Rattle.table.specs.Reading.{byteAt, tableOf}
-use Rattle.table.specs.Layout.{Layout, lineAt}
+use Rattle.table.specs.Layout.{Layout}
 use Rattle.table.specs.LayoutLaws.{layout}
 use Rattle.node.specs.declared.Sets.{Sets}
-use Rattle.node.specs.Node.{nodeOf, Clean, Masks, FillMasks, LineMasks, LineStarts, Prepares, Shows, Squares, noCycle, settledBy, leadsBy, failsTo, Newest, LiveAbove, NodeGiven, LinesGiven}
-use Rattle.node.specs.MaskLaws.{masks-or}
-use Rattle.node.specs.CodeLaws.{eqb-comm, mask-one}
+use Rattle.node.specs.Node.{nodeOf, Clean, Masks, FillMasks, LineMasks, LineStarts, Prepares, Shows, Squares, noCycle, settledBy, failsTo, NodeGiven, LinesGiven}
 use Rattle.node.specs.SquareLaws.{length-node, acyclic-shown}
-use Rattle.node.specs.ReadyLaws.{settled-says, leads-says}
-use Rattle.node.specs.DeadLaws.{dead-fails, skip-line}
-
-or-comm : (p q : Bool) → p || q ≡ q || p
-or-comm true true = refl
-or-comm true false = refl
-or-comm false true = refl
-or-comm false false = refl
+use Rattle.node.specs.ReadyLaws.{settled-says}
+use Rattle.node.specs.DeadLaws.{dead-fails}
 
 module _ (s : List ℕ) (c e v m : ℕ) (sets : Sets) (given : NodeGiven s c e v m sets) where
   pub node-layout : Layout s (tableOf s)
@@ -95,26 +83,5 @@ module _ (s : List ℕ) (c e v m : ℕ) (sets : Sets) (given : NodeGiven s c e v
         settled = λ y. is y ∙ settled-says (tableOf s) (node-layout .all-declared) (nodeOf sets) rows (sets .chosen) (sym count) node-shows y;
       }
 
-      pub node-newest : (z k : ℕ) → z ≡ sets .chosen - 1 → z < 32 → Masks (leadsBy rows z (sets .chosen)) k → Newest (tableOf s) (nodeOf sets) (bitOr k (1 * 2 ^ z % 4294967296))
-      unfolding Newest
-      node-newest z k q h is y =
-          masks-or (leadsBy rows z (sets .chosen)) (λ x. eqb z x) k (1 * 2 ^ z % 4294967296) is (mask-one z h) y
-          ∙ or-comm (leadsBy rows z (sets .chosen) y) (eqb z y)
-          ∙ ap₂ _||_ (eqb-comm z y) (leads-says (tableOf s) (nodeOf sets) rows (sets .chosen) z (sym count) few node-shows y)
-          ∙ ap (λ (x : ℕ). eqb y x || reaches (tableOf s) (nodeOf sets) y x) (q ∙ ap (λ (n : ℕ). n - 1) (sym count))
-
       pub node-fails : failsTo (tableOf s) (nodeOf sets) m ≡ dead sameRole (tableOf s) (nodeOf sets)
       node-fails = sym (dead-fails (tableOf s) (nodeOf sets) m (given .lines ∙ sym (node-layout .lines)) (sym straight ∙ no-cycle))
-
--- a line that the newest variable does not concern
-pub lines-skip : (s : List ℕ) (c e v m : ℕ) (sets : Sets) (mask start : List ℕ) (k about n : ℕ) → LinesGiven s c e v m sets mask start k → length (sets .set) ≡ 12
-    → 0 < sets .chosen → LiveAbove (tableOf s) (nodeOf sets) → Newest (tableOf s) (nodeOf sets) about → n < m → bitAnd (getD mask n 0) about ≡ 0
-    → fails sameRole (tableOf s) (nodeOf sets) (lineAt (tableOf s .lines) n) ≡ false
-unfolding LineMasks
-lines-skip s c e v m sets mask start k about n given room h live newest l q =
-    let lies = node-layout s c e v m sets (given .node) in
-    let few : sets .chosen ≤ 12 = node-few s c e v m sets (given .node) in
-    let count : length (nodeOf sets) ≡ sets .chosen = length-node sets (omega arith) in
-    let lines : length (tableOf s .lines) ≡ byteAt s 9 = lies .lines in
-    let m-is : m ≡ byteAt s 9 = given .node .lines in
-    skip-line (tableOf s) (lies .all-declared) (nodeOf sets) about (getD mask n 0) n live (omega arith) newest (given .masks n l) (omega arith) q

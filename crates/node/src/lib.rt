@@ -11,7 +11,7 @@ ghost use Rattle.el.specs.Assignment.{isVariable};
 ghost use Rattle.el.specs.Walk.{entryVariables, lineVariables, fails, dead};
 ghost use Rattle.table.specs.Reading.{byteAt, reading, isReadable, tableOf};
 ghost use Rattle.table.specs.Layout.{Layout, lineAt, lineStart};
-ghost use Rattle.node.specs.Node.{Clean, Masks, isAmong, dependsBy, dependsFrom, FillMasks, LineMasks, LineStarts, Prepares, entryAs, IsEntry, Direct, Closes, Squares, noCycle, settledBy, leadsBy, nodeOf, failsTo, Newest, LiveAbove, NodeGiven, LineTest, LinesGiven};
+ghost use Rattle.node.specs.Node.{Clean, Masks, isAmong, dependsBy, dependsFrom, FillMasks, LineMasks, LineStarts, Prepares, entryAs, IsEntry, Direct, Closes, Squares, noCycle, settledBy, leadsBy, nodeOf, failsTo, NodeGiven, LineTest, LinesGiven};
 
 // One set number for each variable, and how many variables are chosen.
 pub struct Sets {
@@ -318,65 +318,4 @@ pub fn is_dead(table: &[u8], c: usize, e: usize, v: usize, m: usize, sets: Sets)
     let mask = prepared.mask;
     let start = prepared.start;
     some_fails(table, &mask, &start, c, e, v, m, sets, settled)
-}
-
-// The same where the node above is live: only lines that have the newest variable, or reach it, can fail. Of these the
-// variables are `about`.
-fn new_fails(
-    table: &[u8],
-    mask: &[u32],
-    start: &[usize],
-    c: usize,
-    e: usize,
-    v: usize,
-    m: usize,
-    sets: Sets,
-    settled: u32,
-    about: u32,
-) -> bool
-    requires { ⌜ LinesGiven (now table) c e v m sets (now mask) (now start) settled × (0 < sets .chosen) ⌝ }
-    requires { ⌜ LiveAbove (tableOf (now table)) (nodeOf sets) × Newest (tableOf (now table)) (nodeOf sets) about ⌝ }
-    ensures { λ r. ⌜ r ≡ failsTo (tableOf (now (table .entry))) (nodeOf sets) m ⌝ }
-{
-    let mut n: usize = 0;
-    while n < m {
-        let own = mask[n];
-        if (own & about) != 0 {
-            if line_fails(table, c, e, v, n, start[n], sets, own, settled) {
-                return true;
-            }
-        }
-        n += 1;
-    }
-    false
-}
-
-// Whether the node is dead, where the one above it is live, with what is prepared once.
-pub fn is_dead_child(
-    table: &[u8],
-    fill: &[u32],
-    mask: &[u32],
-    start: &[usize],
-    c: usize,
-    e: usize,
-    v: usize,
-    m: usize,
-    sets: Sets,
-) -> bool
-    requires { ⌜ NodeGiven (now table) c e v m sets × Prepares (now table) (now fill) (now mask) (now start) ⌝ }
-    requires { ⌜ LiveAbove (tableOf (now table)) (nodeOf sets) ⌝ }
-    ensures { λ r. ⌜ r ≡ dead sameRole (tableOf (now (table .entry))) (nodeOf sets) ⌝ }
-{
-    let k = sets.chosen;
-    let square = square_of(fill, c, e, sets);
-    if !is_acyclic(square, k) {
-        return true;
-    }
-    let settled = settled_mask(square, k);
-    if k == 0 {
-        return some_fails(table, mask, start, c, e, v, m, sets, settled);
-    }
-    let z = k - 1;
-    let about = leads_mask(square, k, z) | (1u32 << z);
-    new_fails(table, mask, start, c, e, v, m, sets, settled, about)
 }

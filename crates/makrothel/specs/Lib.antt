@@ -10,3 +10,5 @@ pub mod Demand2
 pub mod Demand3
 pub mod Cases
 pub mod Instances
+pub mod C
+pub mod CUnique

@@ -41,7 +41,7 @@ use Rattle.node.specs.ReadyLaws.{ready-by, none-by, every-among, among-e
 ----------------------------------------------------------------------------------------------------
 -- The lines one by one
 
-any-below : (p : Line → Bool) (l : List Line) → anyOf p l ≡ anyBelow (length l) (λ i. p (lineAt l i))
+pub any-below : (p : Line → Bool) (l : List Line) → anyOf p l ≡ anyBelow (length l) (λ i. p (lineAt l i))
 unfolding lineAt
 any-below p l =
     same-test (anyOf p l) (anyBelow (length l) (λ i. p (lineAt l i)))

@@ -6,3 +6,4 @@ pub mod ReadyLaws
 pub mod LineLaws
 pub mod DeadLaws
 pub mod NodeTestLaws
+pub mod LiveLaws

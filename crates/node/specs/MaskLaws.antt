@@ -5,6 +5,7 @@
 --   bit-and         == the bits of `a & b`
 --   bit-one         == the bits of `1 << k`
 --   shifted         == `1 << k` as the machine shifts it
+--   has-bit             == a number that is not 0 has a bit
 --   no-bits         == a number with no bits is 0
 --   same-bits       == numbers with the same bits are equal
 --   high-none       == a mask has no bit from k on where nothing is left after a shift by k
@@ -120,6 +121,16 @@ no-bits =
   where
     even : (m : ℕ) → m < 2 → (m ≡ 1 → ⊥) → m ≡ 0
     even m h f = omega arith
+
+-- a number that is not 0 has a bit
+pub has-bit : (n : ℕ) → (n ≡ 0 → ⊥) → (i : ℕ) × (bit i n ≡ true)
+has-bit =
+    bin-ind (λ (n : ℕ). (n ≡ 0 → ⊥) → (i : ℕ) × (bit i n ≡ true)) (λ f. absurd (f refl))
+    (λ n ih f. go n ih f (ℕ-discrete (n % 2) 1))
+  where
+    go : (n : ℕ) → ((n / 2 ≡ 0 → ⊥) → (i : ℕ) × (bit i (n / 2) ≡ true)) → (n ≡ 0 → ⊥) → Dec (n % 2 ≡ 1) → (i : ℕ) × (bit i n ≡ true)
+    go n ih f (yes e) = (0, bit-odd n ∙ eq-eqb (n % 2) 1 e)
+    go n ih f (no e) = let r = ih (λ z. f (let l : n % 2 < 2 = omega arith in omega arith)) in (suc (r .0), bit-half (r .0) n ∙ r .1)
 
 digit-same : (a b : ℕ) → a < 2 → b < 2 → eqb a 1 ≡ eqb b 1 → a ≡ b
 digit-same zero zero h k e = refl

@@ -3,7 +3,7 @@
 --   nodeOf sets        == the node: the set numbers of the chosen variables
 --   Clean sets         == a variable that is not chosen has the empty set
 --   Masks p m          == the bits of the mask m are the numbers that pass p
---   isAmong y l        == y is among the numbers of l
+--   isAmong l y        == y is among the numbers of l
 --   leftTo rows l i y  == the variable y stands in one of the first i left entries of the line l, fillers included
 --   dependsBy fill c s k y == bit c + i of s is set for some i below k whose mask of `fill` has the bit y
 --   dependsFrom fill c e set x y == variable x depends on y so, where `set` has the set numbers

@@ -65,7 +65,7 @@ depends-empty fill c e y =
     anyBelow-none e (λ i. bit (c + i) 0 && bit y (getD fill i 0)) (λ i h. ap (λ (p : Bool). p && bit y (getD fill i 0)) (bit-none (c + i)))
 
 -- what the masks of the fillers say of a table
-depends-filled : (t : Table) (c e : ℕ) (fill : List ℕ) → Fills t c e fill → (a : Assignment) (x y : ℕ) → dependsBy fill c (setOf a x) e y ≡ depends t a x y
+pub depends-filled : (t : Table) (c e : ℕ) (fill : List ℕ) → Fills t c e fill → (a : Assignment) (x y : ℕ) → dependsBy fill c (setOf a x) e y ≡ depends t a x y
 unfolding dependsBy depends FillMasks
 depends-filled t c e fill fills a x y =
     anyBelow-same e (λ i. bit (c + i) (setOf a x) && bit y (getD fill i 0)) (λ i. bit (t .constants + i) (setOf a x) && isVariable y (rowAt (t .rows) i .filler))

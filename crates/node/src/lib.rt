@@ -3,12 +3,13 @@ use table::Kind;
 ghost use mathlib.Core.Path.{_≡_};
 ghost use mathlib.Core.Option.{some};
 ghost use Prim.Native.Nat.{_+_, _≤_, _<_};
+ghost use lib.Dec.{T};
 ghost use lib.ListN.{length};
 ghost use Rattle.el.specs.Description.{sameRole};
 ghost use Rattle.el.specs.Table.{Entry, rowAt};
 ghost use Rattle.el.specs.Assignment.{isVariable};
 ghost use Rattle.el.specs.Walk.{entryVariables, lineVariables, fails, dead};
-ghost use Rattle.table.specs.Reading.{byteAt, tableOf};
+ghost use Rattle.table.specs.Reading.{byteAt, reading, isReadable, tableOf};
 ghost use Rattle.table.specs.Layout.{Layout, lineAt, lineStart};
 ghost use Rattle.node.specs.Node.{Clean, Masks, isAmong, dependsBy, dependsFrom, FillMasks, LineMasks, LineStarts, Prepares, entryAs, IsEntry, Direct, Closes, Squares, noCycle, settledBy, leadsBy, nodeOf, failsTo, Newest, LiveAbove, NodeGiven, LineTest, LinesGiven};
 
@@ -73,7 +74,7 @@ fn fill_masks(table: &[u8], e: usize) -> [u32; 24]
 }
 
 // The mask of the variables on which a variable with the set number `set` depends directly.
-fn depends_row(fill: &[u32], c: usize, e: usize, set: u32) -> u32
+pub fn depends_row(fill: &[u32], c: usize, e: usize, set: u32) -> u32
     requires { ⌜ (c + e ≤ 24) × (e ≤ length (now fill)) ⌝ }
     ensures { λ r. ⌜ Masks (dependsBy (now (fill .entry)) c set e) r ⌝ }
 {
@@ -136,7 +137,7 @@ fn close(square: Square, n: usize) -> Square
 }
 
 // The square of variables at a node: row x has a bit for each variable that x reaches.
-fn square_of(fill: &[u32], c: usize, e: usize, sets: Sets) -> Square
+pub fn square_of(fill: &[u32], c: usize, e: usize, sets: Sets) -> Square
     requires { ⌜ (c + e ≤ 24) × (e ≤ length (now fill)) × (sets .chosen ≤ 12) × Clean sets ⌝ }
     ensures { λ r. ⌜ Squares (now (fill .entry)) c e sets (r .row) ⌝ }
 {
@@ -175,7 +176,7 @@ fn entry_mask(table: &[u8], code: u8) -> u32
 }
 
 // The mask of the variables of line n, fillers included.
-pub fn line_mask(table: &[u8], n: usize, at: usize) -> u32
+fn line_mask(table: &[u8], n: usize, at: usize) -> u32
     requires { ⌜ Layout (now table) (tableOf (now table)) ⌝ }
     requires { ⌜ (n < byteAt (now table) 9) × (at ≡ lineStart (now table) n) ⌝ }
     ensures { λ r. ⌜ Masks (isAmong (lineVariables (tableOf (now (table .entry)) .rows) (lineAt (tableOf (now (table .entry)) .lines) n))) r ⌝ }
@@ -210,7 +211,7 @@ fn lines_of(table: &[u8], e: usize, m: usize) -> Lines
 
 // What is prepared once for every node of a table.
 pub fn prepare(table: &[u8], e: usize, m: usize) -> Prepared
-    requires { ⌜ Layout (now table) (tableOf (now table)) × (e ≡ byteAt (now table) 8) × (m ≡ byteAt (now table) 9) ⌝ }
+    requires { ⌜ T (isReadable (reading (now table))) × (e ≡ byteAt (now table) 8) × (m ≡ byteAt (now table) 9) ⌝ }
     ensures { λ r. ⌜ Prepares (now (table .entry)) (r .fill) (r .mask) (r .start) ⌝ }
 {
     let fill = fill_masks(table, e);
@@ -221,7 +222,7 @@ pub fn prepare(table: &[u8], e: usize, m: usize) -> Prepared
 }
 
 // The mask of the settled variables: the chosen ones, n in number, that lead to none that is not chosen.
-fn settled_mask(square: Square, n: usize) -> u32
+pub fn settled_mask(square: Square, n: usize) -> u32
     requires { ⌜ n ≤ 12 ⌝ }
     ensures { λ r. ⌜ Masks (settledBy (square .row) n n) r ⌝ }
 {
@@ -238,7 +239,7 @@ fn settled_mask(square: Square, n: usize) -> u32
 }
 
 // The mask of the variables below n that lead to z.
-fn leads_mask(square: Square, n: usize, z: usize) -> u32
+pub fn leads_mask(square: Square, n: usize, z: usize) -> u32
     requires { ⌜ (n ≤ 12) × (z < 12) ⌝ }
     ensures { λ r. ⌜ Masks (leadsBy (square .row) z n) r ⌝ }
 {

@@ -6,13 +6,14 @@
 --   next-none           == where no node is left
 --   looked-dead, looked-solved, looked-down == what examining a node finds
 --   sound-above     == a sound node has a live parent
+--   kin-sibling, shared-sibling, shared-root == the level along the walk
 --   given-variables, given-node == what the table's counts give
 --   turn-solved, turn-on, turn-over == a node of the list, gone along
 --   walked-start, walked-found, walked-over, walked-on, walked-spent == a turn of the walk's loop
 use mathlib.Core.Path.{_≡_, refl, sym, ap, ap₂, subst, _∙_}
 use mathlib.Core.Bool.{Bool, true, false, _&&_, not}
 use mathlib.Core.List.{List, [], _∷_}
-use Prim.Native.Nat.{ℕ, zero, suc, _+_, _-_, _*_, _%_, _^_, _≤_, _<_}
+use Prim.Native.Nat.{ℕ, zero, suc, _+_, _-_, _*_, _%_, _^_, _≤_, _<_, min}
 use native.Mathlib.Nat.{one-mul, mod-eq-of-lt, sub-zero}
 use native.Mathlib.Omega.{arith}
 use native.Mathlib.Decide.{ℕ-discrete}
@@ -23,7 +24,7 @@ use Rattle.el.specs.Table.{Table, atoms}
 use lib.Dec.{T, eqb}
 use lib.Pow.{pow-lt, pow-mono}
 use borrow.Author.Tests.{eq-eqb, ne-eqb}
-use lib.ListN.{length-append}
+use lib.ListN.{length-append, length-take}
 use lib.Seq.{length-take-le, take-append-seam, take-take}
 use Rattle.el.specs.Walk.{Node, dead, full, ends, Outcome, solved, nothing, budget, outcome, nodes}
 use Rattle.el.specs.ScanLaws.{scan, scan-end, scan-spent, scan-solved, scan-on, scan-means}
@@ -33,12 +34,25 @@ use Rattle.table.specs.Reading.{byteAt, reading, isReadable, tableOf}
 use Rattle.table.specs.Layout.{Layout}
 use Rattle.table.specs.LayoutLaws.{layout}
 use Rattle.node.specs.Node.{nodeOf, Clean, NodeGiven, LiveAbove}
+use Rattle.level.specs.declared.Level.{Level}
+use Rattle.level.specs.Level.{Levels}
 use Rattle.walk.specs.declared.Going.{Going}
 use Rattle.walk.specs.declared.Going.the-variants.{Solved, On, Over}
-use Rattle.walk.specs.Step.{SoundAt, rest, after, NextAs, LookedAs, Given}
+use Rattle.walk.specs.Step.{SoundAt, Kin, Shared, rest, after, NextAs, LookedAs, Given}
 
 unfoldable pub Goes : Table → List ℕ → ℕ → List ℕ → ℕ → Type 0
 Goes t a₀ k₀ a k = (afterwards sameRole t a₀ k₀ ≡ afterwards sameRole t a k) × (SoundAt t a₀ k₀ → SoundAt t a k)
+
+-- at the first node nothing has changed
+pub kin-sibling : (a₀ a : List ℕ) (k₀ k y : ℕ) → 0 < k → (k ≡ k₀ → a ≡ a₀)
+    → Kin (record { set = a₀; chosen = k₀ }) (record { set = set a (k - 1) y; chosen = k })
+unfolding Kin
+kin-sibling a₀ a k₀ k y h f = (h, λ e. take-set-le (k - 1) a (k - 1) y (omega arith) ∙ ap₂ (λ (i : ℕ) (l : List ℕ). take (i - 1) l) e (f e))
+
+-- a child lies deeper
+kin-child : (sets to : Sets) → to .chosen ≡ sets .chosen + 1 → Kin sets to
+unfolding Kin
+kin-child sets to e = (omega arith, λ q. absurd (let z : ⊥ = omega arith in z))
 
 pub goes-start : (t : Table) (a : List ℕ) (k : ℕ) → Goes t a k a k
 unfolding Goes
@@ -109,7 +123,7 @@ module _ (t : Table) (sets : Sets) (fits : sets .chosen ≤ length (sets .set)) 
 
   pub looked-dead : (g : Going) (to : Sets) → dead sameRole t (nodeOf sets) ≡ true → SoundAt t (sets .set) (sets .chosen) → NextAs t sets g to → LookedAs t sets g to
   looked-dead Solved to e s n = absurd n
-  looked-dead On to e s n = (ends-dead t (nodeOf sets) e, rest-dead e ∙ ap (λ (l : List Node). nodeOf sets ∷ l) (n .0), n .1 s)
+  looked-dead On to e s n = (ends-dead t (nodeOf sets) e, rest-dead e ∙ ap (λ (l : List Node). nodeOf sets ∷ l) (n .0), n .1 s, n .2)
   looked-dead Over to e s n = (ends-dead t (nodeOf sets) e, rest-dead e ∙ ap (λ (l : List Node). nodeOf sets ∷ l) n)
 
   pub looked-solved : dead sameRole t (nodeOf sets) ≡ false → sets .chosen ≡ t .variables → LookedAs t sets Solved sets
@@ -121,6 +135,7 @@ module _ (t : Table) (sets : Sets) (fits : sets .chosen ≤ length (sets .set)) 
     ends-part t (nodeOf sets) e (λ z. let y : sets .chosen ≡ t .variables = sym node-length ∙ z in omega arith),
     (unfold rest nodeOf in (remaining-down sameRole t (sets .set) (sets .chosen) h l w e ∙ ap₂ (λ (a : List ℕ) (k : ℕ). take (sets .chosen) (sets .set) ∷ remaining sameRole t a k) (sym p) (sym q))),
     subst (λ (a : List ℕ). SoundAt t a (to .chosen)) (sym p) (subst (SoundAt t (set (sets .set) (sets .chosen) 0)) (sym q) down-sound),
+    kin-child sets to q,
   )
     where
       unclean : (x : ℕ) → sets .chosen ≤ x → getD (sets .set) x 0 ≡ 0
@@ -174,12 +189,22 @@ module _ (s : List ℕ) (c e v m last : ℕ) (given : Given s c e v m last) wher
       }
 
 -- a sound node has a live parent
-pub sound-above : (t : Table) (sets : Sets) → sets .chosen ≤ length (sets .set) → SoundAt t (sets .set) (sets .chosen) → LiveAbove t (nodeOf sets)
+pub sound-above : (t : Table) (sets : Sets) → SoundAt t (sets .set) (sets .chosen) → LiveAbove t (nodeOf sets)
 unfolding SoundAt LiveAbove nodeOf
-sound-above t sets fits sound p x e =
-    let n : length p + 1 ≡ sets .chosen = sym (length-append p (x ∷ [])) ∙ ap length (sym e) ∙ length-take-le (sets .chosen) (sets .set) fits in
+sound-above t sets sound p x e =
+    let n : length p + 1 ≡ min (sets .chosen) (length (sets .set)) = sym (length-append p (x ∷ [])) ∙ ap length (sym e) ∙ length-take (sets .chosen) (sets .set) in
     let q : p ≡ take (length p) (sets .set) = sym (take-append-seam p (x ∷ [])) ∙ ap (take (length p)) (sym e) ∙ take-take (length p) (sets .chosen) (sets .set) (omega arith) in
     ap (dead sameRole t) q ∙ sound .2 (length p) (omega arith)
+
+-- a sibling's level is the one at hand
+pub shared-sibling : (s : List ℕ) (m : ℕ) (from next : Sets) (level : Level) → from .chosen ≡ next .chosen → Kin from next → Shared s m from level → Shared s m next level
+unfolding Kin Shared
+shared-sibling s m from next level e kin shared h =
+    subst (λ (p : Node). Levels (tableOf s) p m level) (sym (kin .1 (sym e))) (shared (omega arith))
+
+pub shared-root : (s : List ℕ) (m : ℕ) (sets : Sets) (level : Level) → sets .chosen ≡ 0 → Shared s m sets level
+unfolding Shared
+shared-root s m sets level e h = absurd (let z : ⊥ = omega arith in z)
 
 -- the counts, read off the table's bytes
 pub given-table : (s : List ℕ) (c e v m last : ℕ) → T (isReadable (reading s)) → c ≡ byteAt s 5 → v ≡ byteAt s 7 → e ≡ byteAt s 8 → m ≡ byteAt s 9 → last + 1 ≡ 2 ^ (c + e) → Given s c e v m last
@@ -246,10 +271,10 @@ module _ (t : Table) (b n : ℕ) (sets : Sets) (inv : outcome sameRole t b ≡ s
         let k : LookedAs t sets Over to = subst (λ (x : Going). LookedAs t sets x to) e looked in
         inv ∙ turn-over (ends sameRole t) b n more (rest t sets) (nodeOf sets) (k .1) (k .0)
 
-    pub walked-on : g ≡ On → SoundAt t (to .set) (to .chosen) × (outcome sameRole t b ≡ scan (ends sameRole t) (b - (n + 1)) (n + 1) (rest t to))
+    pub walked-on : g ≡ On → SoundAt t (to .set) (to .chosen) × Kin sets to × (outcome sameRole t b ≡ scan (ends sameRole t) (b - (n + 1)) (n + 1) (rest t to))
     walked-on e =
         let k : LookedAs t sets On to = subst (λ (x : Going). LookedAs t sets x to) e looked in
-        (k .2, inv ∙ turn-on (ends sameRole t) b n more (rest t sets) (rest t to) (nodeOf sets) (k .1) (k .0))
+        (k .2, k .3, inv ∙ turn-on (ends sameRole t) b n more (rest t sets) (rest t to) (nodeOf sets) (k .1) (k .0))
 
 -- the start, at the root
 pub walked-start : (t : Table) (b : ℕ) (sets : Sets) → sets .chosen ≡ 0 → outcome sameRole t b ≡ scan (ends sameRole t) (b - 0) 0 (rest t sets)

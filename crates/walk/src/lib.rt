@@ -5,10 +5,11 @@ ghost use lib.Dec.{T};
 ghost use lib.ListN.{set};
 ghost use Rattle.el.specs.Description.{sameRole};
 ghost use Rattle.el.specs.Table.{Table, atoms};
-ghost use Rattle.el.specs.Walk.{outcome};
+ghost use Rattle.el.specs.Walk.{dead, outcome};
 ghost use Rattle.table.specs.Reading.{byteAt, reading, isReadable, tableOf};
-ghost use Rattle.node.specs.Node.{Prepares};
-ghost use Rattle.walk.specs.Step.{Sound, Next, Looked, Given, outcomeOf};
+ghost use Rattle.node.specs.Node.{nodeOf, NodeGiven, Prepares, LiveAbove};
+ghost use Rattle.walk.specs.Step.{Sound, Kin, Shared, deadAt, Next, Looked, Given, outcomeOf};
+use level::Level;
 use node::Sets;
 
 // Where a step leads: to the end of the walk, on to a node, or nowhere because no node is left.
@@ -72,24 +73,36 @@ fn next_node(sets: Sets, last: u32) -> Step
     }
 }
 
-// One node examined: dead, it is left; live and full, it ends the walk; live, it is followed by its first child.
-fn look(
+// Is the node dead? The root is tested whole, a child by what its level leaves to test.
+fn is_dead(
     table: &[u8],
     fill: &[u32],
     mask: &[u32],
     start: &[usize],
+    level: Level,
     c: usize,
     e: usize,
     v: usize,
     m: usize,
     sets: Sets,
-    last: u32,
-) -> Step
-    requires { ⌜ Given (now table) c e v m last × Prepares (now table) (now fill) (now mask) (now start) ⌝ }
-    requires { ⌜ Sound (tableOf (now table)) sets ⌝ }
-    ensures { λ r. ⌜ Looked (tableOf (now (table .entry))) sets r ⌝ }
+) -> bool
+    requires { ⌜ NodeGiven (now table) c e v m sets × Prepares (now table) (now fill) (now mask) (now start) ⌝ }
+    requires { ⌜ LiveAbove (tableOf (now table)) (nodeOf sets) × Shared (now table) m sets level ⌝ }
+    ensures { λ r. ⌜ r ≡ dead sameRole (tableOf (now (table .entry))) (nodeOf sets) ⌝ }
 {
-    if node::is_dead_child(table, fill, mask, start, c, e, v, m, sets) {
+    let k = sets.chosen;
+    if k == 0 {
+        return node::is_dead(table, c, e, v, m, sets);
+    }
+    level::is_dead(table, fill, mask, start, level, c, e, v, m, sets)
+}
+
+// One node examined: dead, it is left; live and full, it ends the walk; live, it is followed by its first child.
+fn look(dead: bool, v: usize, sets: Sets, last: u32) -> Step
+    requires { ⌜ (v ≤ 12) × (sets .chosen ≤ v) × (last < 2 ^ 24) ⌝ }
+    ensures { λ r. ⌜ ((t : Table) → v ≡ t .variables → 2 ^ atoms t ≡ last + 1 → Sound t sets → dead ≡ deadAt t sets → Looked t sets r) ⌝ }
+{
+    if dead {
         return next_node(sets, last);
     }
     let k = sets.chosen;
@@ -103,6 +116,32 @@ fn look(
         going: Going::On,
         sets: child(sets),
     }
+}
+
+// The level of the next node: a sibling has the one at hand.
+fn level_for(
+    table: &[u8],
+    fill: &[u32],
+    mask: &[u32],
+    start: &[usize],
+    level: Level,
+    c: usize,
+    e: usize,
+    v: usize,
+    m: usize,
+    from: Sets,
+    next: Sets,
+) -> Level
+    requires { ⌜ NodeGiven (now table) c e v m next × Prepares (now table) (now fill) (now mask) (now start) ⌝ }
+    requires { ⌜ Kin from next × Shared (now table) m from level ⌝ }
+    ensures { λ r. ⌜ Shared (now (table .entry)) m next r ⌝ }
+{
+    let j = from.chosen;
+    let k = next.chosen;
+    if j == k {
+        return level;
+    }
+    level::level_of(table, fill, mask, start, c, e, v, m, next)
 }
 
 // The walk from the root, with the table's counts and its last set number at hand.
@@ -126,10 +165,16 @@ fn walk_from_root(
         set: [0u32; 12],
         chosen: 0,
     };
+    let mut level = Level {
+        row: [0u32; 12],
+        fresh: [0u8; 64],
+        few: 0,
+    };
     let mut count: u32 = 0;
     while count < budget {
         count += 1;
-        let step = look(table, &fill, &mask, &start, c, e, v, m, sets, last);
+        let dead = is_dead(table, &fill, &mask, &start, level, c, e, v, m, sets);
+        let step = look(dead, v, sets, last);
         let next = step.sets;
         let going = step.going;
         match going {
@@ -148,6 +193,7 @@ fn walk_from_root(
                 };
             }
             Going::On => {
+                level = level_for(table, &fill, &mask, &start, level, c, e, v, m, sets, next);
                 sets = next;
             }
         }

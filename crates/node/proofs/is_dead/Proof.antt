@@ -2,12 +2,12 @@
 use mathlib.Core.Path.{sym, _∙_}
 use borrow.Author.Tests.{not-true, not-false}
 use borrow.Author.Needs.{needs}
-use Rattle.node.specs.NodeTestLaws.{node-layout, node-few, square-needs, node-cyclic, node-lines, node-fails}
+use Rattle.node.specs.NodeTestLaws.{node-few, square-needs, node-cyclic, node-lines, node-fails}
 use Rattle.node.proofs.is_dead.Statement.{statement}
 use Rattle.node.proofs.is_dead.Tie as tie
 
 prepare-requires : tie.Need-prepare-requires
-prepare-requires c κs = (node-layout _ _ _ _ _ (c .before .args .sets) (c .before .pre), c .before .pre .restrictions, c .before .pre .lines)
+prepare-requires c κs = (c .before .pre .readable, c .before .pre .restrictions, c .before .pre .lines)
 
 slice-aggregate-square-of : tie.Need-slice-aggregate-square-of
 slice-aggregate-square-of c = search needs

@@ -1,73 +1,44 @@
 -- `walk::look` meets its contract: one law for each of its three ends.
-use borrow.Author.Needs.{needs}
 use mathlib.Core.Path.{_≡_, sym, ap, _∙_}
 use Prim.Native.Nat.{_≤_, _<_}
 use native.Mathlib.Omega.{arith}
 use lib.ListN.{length}
-use Rattle.walk.specs.Step.{Next, Looked}
-use Rattle.walk.proofs.Laws.{given-variables, given-some, given-chosen, given-node, sound-above, looked-dead, looked-solved, looked-down}
+use Rattle.walk.specs.Step.{Next, Looked, deadAt}
+use Rattle.walk.proofs.Laws.{looked-dead, looked-solved, looked-down}
+use borrow.Author.Needs.{needs}
 use Rattle.walk.proofs.look.Statement.{statement}
 use Rattle.walk.proofs.look.Tie as tie
 use Rattle.walk.proofs.look.Reads as reads
 use Rattle.walk.proofs.look.Lts as lts
-use Rattle.node.proofs.is_dead_child.Reads as is-dead-child-reads
 use Rattle.walk.proofs.child.Reads as child-reads
 use Rattle.walk.proofs.next_node.Reads as next-node-reads
 
-is-dead-child-requires : tie.Need-is-dead-child-requires
-is-dead-child-requires c κs =
-    (let g = c .before .before .before .before .pre in
-    let a = c .before .before .before .before .args in
-    let n : length (a .sets .set) ≡ 12 = search needs in
-    let q = given-variables _ _ _ _ _ _ (g .0 .0) in
-    let k = given-chosen _ _ _ _ _ _ (g .0 .0) _ _ (g .1) in
-    ((given-node _ _ _ _ _ _ (g .0 .0) _ (g .1), g .0 .1), sound-above _ (a .sets) (omega arith) (g .1)))
-
+-- src/lib.rt:106:9
 next-node-requires : tie.Need-next-node-requires
-next-node-requires c κs =
-    (let g = c .before .before .before .before .before .before .pre in
-    let q = given-variables _ _ _ _ _ _ (g .0 .0) in
-    let k = given-chosen _ _ _ _ _ _ (g .0 .0) _ _ (g .1) in
-    (omega arith, g .0 .0 .narrow))
+next-node-requires c κs = search needs
 
+-- src/lib.rt:106:9
 returns : tie.Need-returns
-unfolding Looked Next
+unfolding Looked Next deadAt
 returns c =
-    (let g = c .before .before .before .before .before .before .before .pre in
-    let a = c .before .before .before .before .before .before .before .args in
-    let n : length (a .sets .set) ≡ 12 = search needs in
-    let q = given-variables _ _ _ _ _ _ (g .0 .0) in
-    let k = given-chosen _ _ _ _ _ _ (g .0 .0) _ _ (g .1) in
-    looked-dead _ (a .sets) (omega arith) (c .next-node .result .going) (c .next-node .result .sets) (sym (c .before .before .is-dead-child .ensures) ∙ c .before .if1 .taken) (g .1) (c .next-node .ensures _ (g .0 .0 .width)))
+    λ t hv hw s d. (let a = c .before .before .args in let p = c .before .before .pre in let n : length (a .sets .set) ≡ 12 = search needs in
+    looked-dead t (a .sets) (omega arith) (c .next-node .result .going) (c .next-node .result .sets) (sym d ∙ c .before .if1 .taken) s (c .next-node .ensures t hw))
 
+-- src/lib.rt:110:9
 returns-2 : tie.Need-returns-2
-unfolding Looked
-returns-2 c =
-    (let g = c .before .before .before .before .before .before .before .pre in
-    let a = c .before .before .before .before .before .before .before .args in
-    let n : length (a .sets .set) ≡ 12 = search needs in
-    let q = given-variables _ _ _ _ _ _ (g .0 .0) in
-    let k = given-chosen _ _ _ _ _ _ (g .0 .0) _ _ (g .1) in
-    looked-solved _ (a .sets) (omega arith) (sym (c .before .before .is-dead-child .ensures) ∙ c .before .if1 .left) (omega arith))
+unfolding Looked deadAt
+returns-2 c = λ t hv hw s d. (let a = c .before .before .args in let p = c .before .before .pre in let n : length (a .sets .set) ≡ 12 = search needs in looked-solved t (a .sets) (omega arith) (sym d ∙ c .before .if1 .left) (omega arith))
 
+-- src/lib.rt:117:15
 child-requires : tie.Need-child-requires
-child-requires c κs =
-    (let g = c .before .before .before .before .before .before .before .pre in
-    let q = given-variables _ _ _ _ _ _ (g .0 .0) in
-    let k = given-chosen _ _ _ _ _ _ (g .0 .0) _ _ (g .1) in
-    omega arith)
+child-requires c κs = search needs
 
+-- src/lib.rt:101:1
 returns-3 : tie.Need-returns-3
-unfolding Looked
+unfolding Looked deadAt
 returns-3 c =
-    (let g = c .before .before .before .before .before .before .before .before .pre in
-    let a = c .before .before .before .before .before .before .before .before .args in
-    let n : length (a .sets .set) ≡ 12 = search needs in
-    let q = given-variables _ _ _ _ _ _ (g .0 .0) in
-    let k = given-chosen _ _ _ _ _ _ (g .0 .0) _ _ (g .1) in
-    looked-down _ (a .sets) (omega arith) _ (omega arith) (omega arith) (given-some _ _ _ _ _ _ (g .0 .0)) (sym (c .before .before .before .is-dead-child .ensures) ∙ c .before .before .if1 .left) (g .1) (c .child .ensures .1) (c .child .ensures .0))
+    λ t hv hw s d. (let a = c .before .before .before .args in let p = c .before .before .before .pre in let n : length (a .sets .set) ≡ 12 = search needs in
+    looked-down t (a .sets) (omega arith) _ (omega arith) (omega arith) (omega arith) (sym d ∙ c .before .before .if1 .left) s (c .child .ensures .1) (c .child .ensures .0))
 
 pub look-spec : {M : Type 1} → statement M
-look-spec =
-    tie.close
-    (tie.spec is-dead-child-requires next-node-requires returns returns-2 child-requires returns-3)
+look-spec = tie.close (tie.spec next-node-requires returns returns-2 child-requires returns-3)

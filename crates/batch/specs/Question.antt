@@ -1,0 +1,56 @@
+-- The questions of a stream, and what each is answered.
+--
+--   questionOf s     == the question that the nine bytes s begin
+--   isQuestion q     == there is such a kind, and the table is not too long
+--   readReply s, lineReply s n, solveReply s b out == the answers of the three calls as lines
+--   reply q s        == the answer to the question q about the bytes s
+use mathlib.Core.Bool.{Bool, true, false, _&&_}
+use mathlib.Core.List.{List}
+use Prim.Native.Nat.{ℕ, _+_, _*_, min}
+use lib.Dec.{eqb, leb}
+use lib.ListN.{replicate}
+use Rattle.table.specs.Reading.{byteAt, reading}
+use Rattle.text.specs.Listing.{numberAt}
+use Rattle.text.specs.Batch.{readText, lineText, solveText}
+use Rattle.makrothel.specs.declared.ReadAnswer.{ReadAnswer}
+use Rattle.makrothel.specs.Answer.{readAnswer, linePart}
+use Rattle.makrothel.specs.Solve.{Answered, answer}
+use Rattle.batch.specs.declared.Question.{Question}
+
+abbrev pub twoAt : List ℕ → ℕ → ℕ
+twoAt s at = byteAt s at + 256 * byteAt s (at + 1)
+
+-- one byte kind, four bytes a number, two bytes the output's length (larger than 1,024 is taken as 1,024), two bytes the table's length
+unfoldable pub questionOf : List ℕ → Question
+questionOf s = record { kind = byteAt s 0; number = numberAt s 1; room = min (twoAt s 5) 1024; length = twoAt s 7 }
+
+-- 1 read, 2 line, 3 solve; a table has at most 1,024 bytes
+unfoldable pub isQuestion : Question → Bool
+isQuestion q = leb 1 (q .kind) && (leb (q .kind) 3 && leb (q .length) 1024)
+
+-- `number place c r v e m`
+unfoldable pub readReplyOf : ReadAnswer → List ℕ
+readReplyOf a = readText (a .number) (a .place) (a .constants) (a .roles) (a .variables) (a .restrictions) (a .lines)
+
+unfoldable pub readReply : List ℕ → List ℕ
+readReply s = readReplyOf (readAnswer (reading s))
+
+-- the part's bytes
+unfoldable pub lineReply : List ℕ → ℕ → List ℕ
+lineReply s n = lineText (linePart s n)
+
+-- `number count place` and the whole output afterwards
+unfoldable pub solveReplyOf : Answered → List ℕ
+solveReplyOf a = solveText (a .number) (a .count) (a .place) (a .output)
+
+unfoldable pub solveReply : List ℕ → ℕ → List ℕ → List ℕ
+solveReply s b out = solveReplyOf (answer s b out)
+
+-- the output is filled with the byte AA before the call
+unfoldable pub reply : Question → List ℕ → List ℕ
+reply q s =
+    elim (eqb (q .kind) 1)
+    [ true ↦ readReply s
+    | false ↦ elim (eqb (q .kind) 2)
+      [ true ↦ lineReply s (q .number)
+      | false ↦ solveReply s (q .number) (replicate (q .room) 0xAA) ] ]

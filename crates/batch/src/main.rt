@@ -1,0 +1,156 @@
+// Answers a stream of questions, a line of text for each. A question is a kind (1 read, 2 line, 3 solve), a number in four bytes, the
+// length of the output in two, the length of the table in two, little-endian, and the table.
+ghost use mathlib.Core.Path.{_≡_};
+ghost use Prim.Native.Nat.{_+_, _*_, _≤_, _<_, min};
+ghost use lib.ListN.{length, take};
+ghost use Rattle.io.specs.Counts.{Counts};
+ghost use Rattle.table.specs.Reading.{byteAt};
+ghost use Rattle.batch.specs.Question.{questionOf, isQuestion, readReply, lineReply, solveReply, reply};
+use libc::STDIN_FILENO;
+use libc::STDOUT_FILENO;
+
+// How long a table and an output may be.
+const MOST: usize = 1024;
+
+// A question, but for its table: `number` is the number of a line, or a budget, and `room` the length of the output.
+pub struct Question {
+    pub kind: u8,
+    pub number: u32,
+    pub room: usize,
+    pub length: usize,
+}
+
+fn wide(x: u8) -> usize
+    ensures { λ r. ⌜ (r ≡ x) × (r < 256) ⌝ }
+{
+    x as usize
+}
+
+fn least(a: usize, b: usize) -> usize
+    ensures { λ r. ⌜ r ≡ min a b ⌝ }
+{
+    if a < b { a } else { b }
+}
+
+fn two_at(bytes: &[u8], at: usize) -> usize
+    requires { ⌜ at + 2 ≤ length (now bytes) ⌝ }
+    ensures { λ r. ⌜ r ≡ byteAt (now (bytes .entry)) at + 256 * byteAt (now (bytes .entry)) (at + 1) ⌝ }
+{
+    wide(bytes[at]) + 256 * wide(bytes[at + 1])
+}
+
+// What the nine bytes before a table say.
+fn question_of(head: &[u8]) -> Question
+    requires { ⌜ 9 ≤ length (now head) ⌝ }
+    ensures { λ r. ⌜ r ≡ questionOf (now (head .entry)) ⌝ }
+{
+    Question {
+        kind: head[0],
+        number: text::number_at(head, 1),
+        room: least(two_at(head, 5), MOST),
+        length: two_at(head, 7),
+    }
+}
+
+// Is there such a kind, and is the table not too long?
+fn is_question(q: Question) -> bool
+    ensures { λ r. ⌜ r ≡ isQuestion q ⌝ }
+{
+    1 <= q.kind && (q.kind <= 3 && q.length <= MOST)
+}
+
+fn read_reply(table: &[u8], line: &mut [u8]) -> usize
+    requires { ⌜ 4096 ≤ length (now line) ⌝ }
+    ensures { λ r. ⌜ Counts r (now (line .exit)) ⌝ }
+    ensures { λ r. ⌜ take r (now (line .exit)) ≡ readReply (now (table .entry)) ⌝ }
+{
+    let a = makrothel::read(table);
+    text::read_line(
+        a.number,
+        a.place,
+        a.constants,
+        a.roles,
+        a.variables,
+        a.restrictions,
+        a.lines,
+        line,
+    )
+}
+
+fn line_reply(table: &[u8], n: u32, line: &mut [u8]) -> usize
+    requires { ⌜ (length (now table) ≤ 1024) × (4096 ≤ length (now line)) ⌝ }
+    ensures { λ r. ⌜ Counts r (now (line .exit)) ⌝ }
+    ensures { λ r. ⌜ take r (now (line .exit)) ≡ lineReply (now (table .entry)) n ⌝ }
+{
+    text::hex_line(makrothel::line(table, n), line)
+}
+
+fn solve_reply(table: &[u8], budget: u32, output: &mut [u8], line: &mut [u8]) -> usize
+    requires { ⌜ (length (now output) ≤ 1024) × (4096 ≤ length (now line)) ⌝ }
+    ensures { λ r. ⌜ Counts r (now (line .exit)) ⌝ }
+    ensures { λ r. ⌜ take r (now (line .exit)) ≡ solveReply (now (table .entry)) budget (now (output .entry)) ⌝ }
+{
+    let a = makrothel::solve(table, budget, output);
+    text::solve_line(a.number, a.count, a.place, output, line)
+}
+
+// The answer to a question, as a line.
+fn reply_to(q: Question, table: &[u8], line: &mut [u8]) -> usize
+    requires { ⌜ (q .room ≤ 1024) × (length (now table) ≤ 1024) × (4096 ≤ length (now line)) ⌝ }
+    ensures { λ r. ⌜ Counts r (now (line .exit)) ⌝ }
+    ensures { λ r. ⌜ take r (now (line .exit)) ≡ reply q (now (table .entry)) ⌝ }
+{
+    if q.kind == 1 {
+        return read_reply(table, line);
+    }
+    if q.kind == 2 {
+        return line_reply(table, q.number, line);
+    }
+    let room = q.room;
+    let mut output = [0xAAu8; MOST];
+    solve_reply(table, q.number, &mut output[..room], line)
+}
+
+fn cut() -> bool {
+    io::write_all(STDOUT_FILENO, b"cut\n");
+    false
+}
+
+// Reads the first `size` bytes of the table. Says whether they were there.
+fn is_read(table: &mut [u8], size: usize) -> bool
+    requires { ⌜ size ≤ length (now table) ⌝ }
+{
+    io::read_full(STDIN_FILENO, &mut table[..size]) == size
+}
+
+// Reads a question and answers it. Says whether to go on.
+fn answer_one() -> bool {
+    let mut head = [0u8; 9];
+    let got = io::read_full(STDIN_FILENO, &mut head);
+    if got == 0 {
+        return false;
+    }
+    if got < 9 {
+        return cut();
+    }
+    let q = question_of(&head);
+    if !is_question(q) {
+        return cut();
+    }
+    let length = q.length;
+    let mut table = [0u8; MOST];
+    if !is_read(&mut table, length) {
+        return cut();
+    }
+    let mut line = [0u8; 4096];
+    let end = reply_to(q, &table[..length], &mut line);
+    io::write_all(STDOUT_FILENO, &line[..end])
+}
+
+// A proved loop has to end, and nothing says that a stream does: it ends after 2^64 - 1 questions, which no run reaches.
+fn main() {
+    let mut left = u64::MAX;
+    while left > 0 && answer_one() {
+        left -= 1;
+    }
+}

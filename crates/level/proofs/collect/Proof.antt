@@ -1,0 +1,92 @@
+-- `level::collect` meets its contract. The invariant: of the first n lines those that pass are listed. The measure is what is left of m.
+use mathlib.Core.Path.{_≡_, refl, sym, ap, subst, _∙_}
+use mathlib.Core.Logic.{⊎-elim}
+use Prim.Native.Nat.{ℕ, _-_, _≤_}
+use native.Mathlib.Omega.{arith}
+use lib.ListN.{length, length-set}
+use Rattle.level.specs.Level.{isFresh, Listed}
+use Rattle.level.specs.LevelLaws.{listed-start, turn-more, turn-skip, listed-whole}
+use borrow.Author.Needs.{needs}
+use Rattle.level.proofs.collect.Statement.{statement}
+use Rattle.level.proofs.collect.Tie as tie
+use Rattle.level.proofs.collect.Reads as reads
+use Rattle.level.proofs.collect.Lts as lts
+use Rattle.level.proofs.passes.Reads as passes-reads
+
+abbrev Inv-loop : tie.InvT-loop
+Inv-loop mask m about near square fresh₀ few₀ n₀ fresh few n =
+    (n ≤ m) × (few ≤ n) × (length fresh ≡ 64) × Listed (isFresh mask about near) n fresh few
+
+abbrev μ-loop : tie.MeasureT-loop
+μ-loop mask m about near square fresh₀ few₀ n₀ fresh few n = m - n
+
+-- src/lib.rt:56:5
+loop-holds : tie.Need-loop-holds Inv-loop μ-loop
+loop-holds c = (omega arith, omega arith, refl, listed-start _ _)
+
+-- src/lib.rt:57:19
+mul-passes : tie.Need-mul-passes Inv-loop μ-loop
+mul-passes c = search needs
+
+-- src/lib.rt:57:19
+shared-slice-read-passes : tie.Need-shared-slice-read-passes Inv-loop μ-loop
+shared-slice-read-passes c = search needs
+
+-- src/lib.rt:57:12
+passes-requires : tie.Need-passes-requires Inv-loop μ-loop
+passes-requires c κs = search needs
+
+-- src/lib.rt:58:26
+cast-fresh : tie.Need-cast-fresh Inv-loop μ-loop
+cast-fresh c = search needs
+
+-- src/lib.rt:58:13
+array-write-fresh : tie.Need-array-write-fresh Inv-loop μ-loop
+array-write-fresh c = search needs
+
+-- src/lib.rt:59:13
+add-few : tie.Need-add-few Inv-loop μ-loop
+add-few c = search needs
+
+-- src/lib.rt:61:9
+add-n : tie.Need-add-n Inv-loop μ-loop
+add-n c = search needs
+
+-- src/lib.rt:56:5
+loop-less : tie.Need-loop-less Inv-loop μ-loop
+loop-less c = search needs
+
+-- src/lib.rt:56:5
+loop-again : tie.Need-loop-again Inv-loop μ-loop
+unfolding isFresh
+loop-again c =
+    (let l = c .before .before .before .before .loop in
+    let k = c .before .before .before .loop-test .taken in
+    let m = c .before .before .before .before .before .before .pre in
+    let t = ⊎-elim
+    (λ w. turn-more _ (l .n) (l .few) _ (l .fresh) _ (sym (c .before .passes .ensures) ∙ w .0 .taken) (l .inv .1) (omega arith) (l .inv .2) (w .1) (w .2) (l .inv .3))
+    (λ w. turn-skip _ (l .n) (l .few) _ (l .fresh) _ (sym (c .before .passes .ensures) ∙ w .0 .left) (l .inv .1) (l .inv .2) (w .1) (w .2) (l .inv .3))
+    (c .if1 .came) in
+    (omega arith, t .0, t .1, t .2))
+
+-- src/lib.rt:49:1
+returns : tie.Need-returns Inv-loop μ-loop
+returns c = (refl, listed-whole _ _ _ _ _ (c .before .before .loop .inv .0) (c .before .loop-test .left) (c .before .before .loop .inv .3))
+
+pub collect-spec : {M : Type 1} → statement M
+collect-spec =
+    tie.close
+    (tie.spec
+    Inv-loop
+    μ-loop
+    loop-holds
+    mul-passes
+    shared-slice-read-passes
+    passes-requires
+    cast-fresh
+    array-write-fresh
+    add-few
+    add-n
+    loop-less
+    loop-again
+    returns)

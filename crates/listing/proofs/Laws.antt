@@ -1,0 +1,24 @@
+-- The law that carries the report to its text.
+--
+--   report-is == the text of the solver's answer, written to a buffer that is long enough, is the report
+use mathlib.Core.Path.{_≡_, ap, subst, _∙_}
+use mathlib.Core.List.{List}
+use Prim.Native.Nat.{ℕ, _^_, _≤_, _<_}
+use native.Mathlib.Omega.{arith}
+use lib.ListN.{length, take, replicate}
+use Rattle.io.specs.Counts.{Counts}
+use Rattle.text.specs.Append.{Appended}
+use Rattle.text.specs.AppendLaws.{appended-as, appended-whole}
+use Rattle.text.specs.Listing.{listingText}
+use Rattle.text.specs.FitsLaws.{listing-fits}
+use Rattle.makrothel.specs.declared.SolveAnswer.{SolveAnswer}
+use Rattle.makrothel.specs.Solve.{answered, answer}
+use Rattle.listing.specs.Report.{answerText, reportText}
+
+pub report-is : (s : List ℕ) (a : SolveAnswer) (out : List ℕ) {b after : List ℕ} {r : ℕ} → answered a out ≡ answer s 1000000 (replicate 48 0)
+    → a .number < 2 ^ 32 → a .count < 2 ^ 32 → a .place < 2 ^ 64 → 4096 ≤ length b
+    → Appended b 0 (listingText s (a .number) (a .count) (a .place) out) after r → Counts r after × (take r after ≡ reportText s)
+unfolding answered answerText reportText
+report-is s a out e n c p room h =
+    let w = appended-whole h (let f : length (listingText s (a .number) (a .count) (a .place) out) ≤ 4096 = listing-fits s (a .number) (a .count) (a .place) out n c p in omega arith) in
+    ((w .0, w .1), w .2 ∙ ap (answerText s) e)

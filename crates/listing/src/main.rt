@@ -1,0 +1,32 @@
+// Reads a table from standard input, solves it and writes the answer as text.
+ghost use mathlib.Core.Path.{_≡_};
+ghost use Prim.Native.Nat.{_≤_};
+ghost use lib.ListN.{length, take};
+ghost use Rattle.io.specs.Counts.{Counts};
+ghost use Rattle.listing.specs.Report.{reportText};
+use libc::STDIN_FILENO;
+use libc::STDOUT_FILENO;
+
+// One byte more than the longest readable table has, so that a longer input is answered as a longer one.
+const MOST: usize = 699;
+
+const BUDGET: u32 = 1000000;
+
+// The answer to a table as text, at the start of the buffer.
+fn report(table: &[u8], buffer: &mut [u8]) -> usize
+    requires { ⌜ 4096 ≤ length (now buffer) ⌝ }
+    ensures { λ r. ⌜ Counts r (now (buffer .exit)) ⌝ }
+    ensures { λ r. ⌜ take r (now (buffer .exit)) ≡ reportText (now (table .entry)) ⌝ }
+{
+    let mut output = [0u8; 48];
+    let a = makrothel::solve(table, BUDGET, &mut output);
+    text::listing(table, a.number, a.count, a.place, &output, buffer)
+}
+
+fn main() {
+    let mut table = [0u8; MOST];
+    let n = io::read_full(STDIN_FILENO, &mut table);
+    let mut buffer = [0u8; 4096];
+    let end = report(&table[..n], &mut buffer);
+    io::write_all(STDOUT_FILENO, &buffer[..end]);
+}

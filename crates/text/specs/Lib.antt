@@ -1,0 +1,10 @@
+pub mod Append
+pub mod AppendLaws
+pub mod Text
+pub mod Decimal
+pub mod TextLaws
+pub mod Listing
+pub mod Batch
+pub mod FitsLaws
+pub mod Examples
+pub mod Unique

@@ -1,0 +1,105 @@
+-- The text of an answer, as the listing program writes it.
+--
+--   numberAt s at        == the number in the four bytes from `at` on, little-endian
+--   fillerText f         == `top`, `c0`, `v1`
+--   codeText kind        == a filler by the kind of its code; nothing for a code that is no filler
+--   rowText row          == `r0.v1`, `r0.c0`, `r0.top`
+--   atomText t i         == atom i
+--   atomsIn n s          == the atoms of the set s with a number below n, in rising number
+--   conjunctionText ts   == the texts joined by ` & `, or `top` for none
+--   setText t s          == the set s
+--   atomOf t s i later   == atom i, where the set s has it, with ` & ` before it if it is a later one
+--   variableLine t out x == the line of variable x
+--   variableLines t out n == the lines of variables 0 to n - 1
+--   solvedText t out     == the lines of all variables, where the output holds a set for each
+--   listingText s number count place out == the whole text
+use mathlib.Core.Bool.{Bool, true, false, cond}
+use mathlib.Core.List.{List, [], _∷_, _++_, map}
+use Prim.Native.Nat.{ℕ, zero, suc, _+_, _*_, _-_}
+use lib.Dec.{ltb}
+use lib.ListN.{length}
+use Rattle.el.specs.Test.{bit}
+use Rattle.el.specs.Table.{Filler, topF, constantF, variableF, Row, Table, rowAt, atoms}
+use Rattle.table.specs.declared.Kind.{Kind}
+use Rattle.table.specs.declared.Kind.the-variants.{Top, Constant, Restriction, Variable, Other}
+use Rattle.table.specs.Reading.{byteAt, tableOf}
+use Rattle.text.specs.Text.{newline, decimal, joined, numbersText}
+
+-- "each variable's set number, four bytes"
+unfoldable pub numberAt : List ℕ → ℕ → ℕ
+numberAt s at = byteAt s at + 256 * byteAt s (at + 1) + 65536 * byteAt s (at + 2) + 16777216 * byteAt s (at + 3)
+
+abbrev pub topText : List ℕ
+topText = 0x74 ∷ 0x6F ∷ 0x70 ∷ []
+
+-- a constant, a variable: `c` or `v`, and its number
+abbrev pub constantText : ℕ → List ℕ
+constantText k = 0x63 ∷ decimal k
+
+abbrev pub variableText : ℕ → List ℕ
+variableText k = 0x76 ∷ decimal k
+
+-- "Atoms print as `c0` or `r0.v1`, `r0.c0`, `r0.top`."
+unfoldable pub fillerText : Filler → List ℕ
+fillerText topF = topText
+fillerText (constantF k) = constantText k
+fillerText (variableF k) = variableText k
+
+-- the same by its code
+unfoldable pub codeText : Kind → List ℕ
+codeText Top = topText
+codeText (Constant k) = constantText k
+codeText (Restriction k) = []
+codeText (Variable k) = variableText k
+codeText Other = []
+
+unfoldable pub rowText : Row → List ℕ
+rowText row = 0x72 ∷ (decimal (row .role) ++ (0x2E ∷ fillerText (row .filler)))
+
+-- "constant k is k, restriction k is c + k"
+unfoldable pub atomText : Table → ℕ → List ℕ
+atomText t i = elim (ltb i (t .constants)) [ true ↦ constantText i | false ↦ rowText (rowAt (t .rows) (i - t .constants)) ]
+
+-- "its atoms in rising number"
+unfoldable pub atomsIn : ℕ → ℕ → List ℕ
+atomsIn zero s = []
+atomsIn (suc n) s = elim (bit n s) [ true ↦ atomsIn n s ++ (n ∷ []) | false ↦ atomsIn n s ]
+
+-- "joined by ` & `, or `top` for none"
+abbrev pub ampersand : List ℕ
+ampersand = 0x20 ∷ 0x26 ∷ 0x20 ∷ []
+
+unfoldable pub conjunctionText : List (List ℕ) → List ℕ
+conjunctionText [] = topText
+conjunctionText (t ∷ ts) = joined ampersand (t ∷ ts)
+
+unfoldable pub setText : Table → ℕ → List ℕ
+setText t s = conjunctionText (map (atomText t) (atomsIn (atoms t) s))
+
+-- atom i, where the set s has it, behind those that stand before it
+unfoldable pub atomOf : Table → ℕ → ℕ → Bool → List ℕ
+atomOf t s i later = elim (bit i s) [ true ↦ cond later ampersand [] ++ atomText t i | false ↦ [] ]
+
+-- "a line per variable follows: `v`, number, `: `, then its atoms"
+unfoldable pub variableLine : Table → List ℕ → ℕ → List ℕ
+variableLine t out x = variableText x ++ (0x3A ∷ 0x20 ∷ (setText t (numberAt out (4 * x)) ++ newline))
+
+unfoldable pub variableLines : Table → List ℕ → ℕ → List ℕ
+variableLines t out zero = []
+variableLines t out (suc n) = variableLines t out n ++ variableLine t out n
+
+unfoldable pub solvedText : Table → List ℕ → List ℕ
+solvedText t out = elim (ltb (length out) (4 * t .variables)) [ true ↦ [] | false ↦ variableLines t out (t .variables) ]
+
+-- "If the number is 0"
+abbrev pub underNumber : ℕ → List ℕ → List ℕ
+underNumber zero text = text
+underNumber (suc n) text = []
+
+-- "First line: number, count, place, with single spaces."
+unfoldable pub firstLine : ℕ → ℕ → ℕ → List ℕ
+firstLine number count place = numbersText (number ∷ count ∷ place ∷ []) ++ newline
+
+-- of an unreadable table there are no variables: the first line alone
+unfoldable pub listingText : List ℕ → ℕ → ℕ → ℕ → List ℕ → List ℕ
+listingText s number count place out = firstLine number count place ++ underNumber number (solvedText (tableOf s) out)

@@ -1,0 +1,324 @@
+// Answers as text, appended to a buffer that the caller lends. A writer takes the buffer and its first free byte and returns the next
+// one; of a text that is longer than the room left, as much is written as fits.
+ghost use mathlib.Core.Path.{_≡_};
+ghost use mathlib.Core.Bool.{_||_, cond};
+ghost use mathlib.Core.List.{[], _∷_};
+ghost use Prim.Native.Nat.{_+_, _*_, _≤_, _<_};
+ghost use lib.Dec.{T};
+ghost use lib.ListN.{length};
+ghost use Rattle.el.specs.Test.{bit};
+ghost use Rattle.el.specs.Table.{rowAt, atoms};
+ghost use Rattle.table.specs.Code.{kindOf};
+ghost use Rattle.table.specs.Reading.{byteAt, reading, tableOf, isReadable};
+ghost use Rattle.text.specs.Append.{Appended};
+ghost use Rattle.text.specs.Text.{digit, decimal, numbersText, bytesText, hexText};
+ghost use Rattle.text.specs.Listing.{numberAt, codeText, rowText, atomText, atomOf, setText, variableLine, variableLines, solvedText, firstLine, listingText};
+ghost use Rattle.text.specs.Batch.{readText, lineText, solveText};
+use table::Kind;
+use table::Verdict;
+
+// One byte.
+fn put_byte(byte: u8, buffer: &mut [u8], at: usize) -> usize
+    ensures { λ r. ⌜ Appended (now (buffer .entry)) at (byte ∷ []) (now (buffer .exit)) r ⌝ }
+{
+    if at < buffer.len() {
+        buffer[at] = byte;
+        return at + 1;
+    }
+    at
+}
+
+// A text that stands in a slice.
+fn put_text(text: &[u8], buffer: &mut [u8], at: usize) -> usize
+    ensures { λ r. ⌜ Appended (now (buffer .entry)) at (now (text .entry)) (now (buffer .exit)) r ⌝ }
+{
+    let mut end = at;
+    let mut i = 0;
+    while i < text.len() {
+        end = put_byte(text[i], buffer, end);
+        i += 1;
+    }
+    end
+}
+
+// What stands between two texts, where one was written already.
+fn put_between(later: bool, between: &[u8], buffer: &mut [u8], at: usize) -> usize
+    ensures { λ r. ⌜ Appended (now (buffer .entry)) at (cond later (now (between .entry)) []) (now (buffer .exit)) r ⌝ }
+{
+    if later {
+        return put_text(between, buffer, at);
+    }
+    at
+}
+
+// The character of a digit below 16.
+fn digit_of(d: usize) -> u8
+    requires { ⌜ d < 16 ⌝ }
+    ensures { λ r. ⌜ r ≡ digit d ⌝ }
+{
+    if d < 10 {
+        return 48 + d as u8;
+    }
+    87 + d as u8
+}
+
+// A number in decimal: its last digit behind the others.
+fn put_decimal(n: usize, buffer: &mut [u8], at: usize) -> usize
+    ensures { λ r. ⌜ Appended (now (buffer .entry)) at (decimal n) (now (buffer .exit)) r ⌝ }
+{
+    if n < 10 {
+        return put_byte(digit_of(n), buffer, at);
+    }
+    let end = put_decimal(n / 10, buffer, at);
+    put_byte(digit_of(n % 10), buffer, end)
+}
+
+// Numbers with single spaces.
+fn put_numbers(numbers: &[usize], buffer: &mut [u8], at: usize) -> usize
+    ensures { λ r. ⌜ Appended (now (buffer .entry)) at (numbersText (now (numbers .entry))) (now (buffer .exit)) r ⌝ }
+{
+    let mut end = at;
+    let mut i = 0;
+    while i < numbers.len() {
+        end = put_between(0 < i, b" ", buffer, end);
+        end = put_decimal(numbers[i], buffer, end);
+        i += 1;
+    }
+    end
+}
+
+// A byte of a slice as a number.
+fn byte_at(bytes: &[u8], at: usize) -> usize
+    requires { ⌜ at < length (now bytes) ⌝ }
+    ensures { λ r. ⌜ (r ≡ byteAt (now (bytes .entry)) at) × (r < 256) ⌝ }
+{
+    bytes[at] as usize
+}
+
+// The bytes of a slice in hexadecimal.
+fn put_bytes(bytes: &[u8], buffer: &mut [u8], at: usize) -> usize
+    ensures { λ r. ⌜ Appended (now (buffer .entry)) at (bytesText (now (bytes .entry))) (now (buffer .exit)) r ⌝ }
+{
+    let mut end = at;
+    let mut i = 0;
+    while i < bytes.len() {
+        let b = byte_at(bytes, i);
+        end = put_byte(digit_of(b / 16), buffer, end);
+        end = put_byte(digit_of(b % 16), buffer, end);
+        i += 1;
+    }
+    end
+}
+
+fn put_hex(bytes: &[u8], buffer: &mut [u8], at: usize) -> usize
+    ensures { λ r. ⌜ Appended (now (buffer .entry)) at (hexText (now (bytes .entry))) (now (buffer .exit)) r ⌝ }
+{
+    if bytes.len() == 0 {
+        return put_byte(b'-', buffer, at);
+    }
+    put_bytes(bytes, buffer, at)
+}
+
+// A letter and a number.
+fn put_named(letter: u8, n: usize, buffer: &mut [u8], at: usize) -> usize
+    ensures { λ r. ⌜ Appended (now (buffer .entry)) at (letter ∷ decimal n) (now (buffer .exit)) r ⌝ }
+{
+    let end = put_byte(letter, buffer, at);
+    put_decimal(n, buffer, end)
+}
+
+// A filler, by its code.
+fn put_filler(code: u8, buffer: &mut [u8], at: usize) -> usize
+    ensures { λ r. ⌜ Appended (now (buffer .entry)) at (codeText (kindOf code)) (now (buffer .exit)) r ⌝ }
+{
+    match table::kind_of(code) {
+        Kind::Top => put_text(b"top", buffer, at),
+        Kind::Constant(k) => put_named(b'c', table::wide(k), buffer, at),
+        Kind::Restriction(_) => at,
+        Kind::Variable(k) => put_named(b'v', table::wide(k), buffer, at),
+        Kind::Other => at,
+    }
+}
+
+// Restriction k: its role and its filler.
+fn put_row(table: &[u8], k: usize, buffer: &mut [u8], at: usize) -> usize
+    requires { ⌜ T (isReadable (reading (now table))) × (k < byteAt (now table) 8) ⌝ }
+    ensures { λ r. ⌜ Appended (now (buffer .entry)) at (rowText (rowAt (tableOf (now (table .entry)) .rows) k)) (now (buffer .exit)) r ⌝ }
+{
+    let place = table::HEADER + 2 * k;
+    let mut end = put_named(b'r', byte_at(table, place), buffer, at);
+    end = put_byte(b'.', buffer, end);
+    put_filler(table[place + 1], buffer, end)
+}
+
+// Atom i.
+fn put_atom(table: &[u8], i: usize, buffer: &mut [u8], at: usize) -> usize
+    requires { ⌜ T (isReadable (reading (now table))) × (i < byteAt (now table) 5 + byteAt (now table) 8) ⌝ }
+    ensures { λ r. ⌜ Appended (now (buffer .entry)) at (atomText (tableOf (now (table .entry))) i) (now (buffer .exit)) r ⌝ }
+{
+    let constants = byte_at(table, table::CONSTANTS);
+    if i < constants {
+        return put_named(b'c', i, buffer, at);
+    }
+    put_row(table, i - constants, buffer, at)
+}
+
+// Is atom i in the set?
+fn in_set(set: u32, i: usize) -> bool
+    requires { ⌜ i < 32 ⌝ }
+    ensures { λ r. ⌜ r ≡ bit i set ⌝ }
+{
+    (set >> i) % 2 == 1
+}
+
+fn either(a: bool, b: bool) -> bool
+    ensures { λ r. ⌜ r ≡ (a || b) ⌝ }
+{
+    if a {
+        return true;
+    }
+    b
+}
+
+// Atom i, where the set has it, behind those that were written already.
+fn put_atom_of(table: &[u8], set: u32, i: usize, later: bool, buffer: &mut [u8], at: usize) -> usize
+    requires { ⌜ T (isReadable (reading (now table))) × (i < byteAt (now table) 5 + byteAt (now table) 8) ⌝ }
+    ensures { λ r. ⌜ Appended (now (buffer .entry)) at (atomOf (tableOf (now (table .entry))) set i later) (now (buffer .exit)) r ⌝ }
+{
+    if !in_set(set, i) {
+        return at;
+    }
+    let end = put_between(later, b" & ", buffer, at);
+    put_atom(table, i, buffer, end)
+}
+
+// A set: its atoms in rising number.
+fn put_set(table: &[u8], set: u32, buffer: &mut [u8], at: usize) -> usize
+    requires { ⌜ T (isReadable (reading (now table))) ⌝ }
+    ensures { λ r. ⌜ Appended (now (buffer .entry)) at (setText (tableOf (now (table .entry))) set) (now (buffer .exit)) r ⌝ }
+{
+    let atoms = byte_at(table, table::CONSTANTS) + byte_at(table, table::RESTRICTIONS);
+    let mut later = false;
+    let mut end = at;
+    let mut i = 0;
+    while i < atoms {
+        end = put_atom_of(table, set, i, later, buffer, end);
+        later = either(later, in_set(set, i));
+        i += 1;
+    }
+    if later {
+        return end;
+    }
+    put_text(b"top", buffer, end)
+}
+
+// The number in four bytes, little-endian.
+pub fn number_at(bytes: &[u8], at: usize) -> u32
+    requires { ⌜ at + 4 ≤ length (now bytes) ⌝ }
+    ensures { λ r. ⌜ r ≡ numberAt (now (bytes .entry)) at ⌝ }
+{
+    let low = byte_at(bytes, at) + 256 * byte_at(bytes, at + 1);
+    let high = byte_at(bytes, at + 2) + 256 * byte_at(bytes, at + 3);
+    (low + 65536 * high) as u32
+}
+
+// The line of variable x.
+fn put_variable(table: &[u8], x: usize, output: &[u8], buffer: &mut [u8], at: usize) -> usize
+    requires { ⌜ T (isReadable (reading (now table))) × (4 * x + 4 ≤ length (now output)) ⌝ }
+    ensures { λ r. ⌜ Appended (now (buffer .entry)) at (variableLine (tableOf (now (table .entry))) (now (output .entry)) x) (now (buffer .exit)) r ⌝ }
+{
+    let set = number_at(output, 4 * x);
+    let mut end = put_named(b'v', x, buffer, at);
+    end = put_text(b": ", buffer, end);
+    end = put_set(table, set, buffer, end);
+    put_byte(b'\n', buffer, end)
+}
+
+// The lines of the first n variables.
+fn put_variables(table: &[u8], n: usize, output: &[u8], buffer: &mut [u8], at: usize) -> usize
+    requires { ⌜ T (isReadable (reading (now table))) × (4 * n ≤ length (now output)) ⌝ }
+    ensures { λ r. ⌜ Appended (now (buffer .entry)) at (variableLines (tableOf (now (table .entry))) (now (output .entry)) n) (now (buffer .exit)) r ⌝ }
+{
+    let mut end = at;
+    let mut x = 0;
+    while x < n {
+        end = put_variable(table, x, output, buffer, end);
+        x += 1;
+    }
+    end
+}
+
+// The lines of all variables, where the table is readable and the output holds a set for each.
+fn put_solved(table: &[u8], output: &[u8], buffer: &mut [u8], at: usize) -> usize
+    ensures { λ r. ⌜ Appended (now (buffer .entry)) at (solvedText (tableOf (now (table .entry))) (now (output .entry))) (now (buffer .exit)) r ⌝ }
+{
+    match table::check(table) {
+        Verdict::Refused(_, _) => {
+            return at;
+        }
+        Verdict::Readable => {}
+    }
+    let n = byte_at(table, table::VARIABLES);
+    if output.len() < 4 * n {
+        return at;
+    }
+    put_variables(table, n, output, buffer, at)
+}
+
+// Number, count and place, with single spaces.
+fn put_answer(number: u32, count: u32, place: usize, buffer: &mut [u8], at: usize) -> usize
+    ensures { λ r. ⌜ Appended (now (buffer .entry)) at (numbersText (number ∷ count ∷ place ∷ [])) (now (buffer .exit)) r ⌝ }
+{
+    put_numbers(&[number as usize, count as usize, place], buffer, at)
+}
+
+// The text of the solver's answer, at the start of the buffer: the first line, and for "solved" a line per variable. Returns how many
+// bytes were written: the whole text, or where it is longer than the buffer as much as fits.
+pub fn listing(table: &[u8], number: u32, count: u32, place: usize, output: &[u8], buffer: &mut [u8]) -> usize
+    ensures { λ r. ⌜ Appended (now (buffer .entry)) 0 (listingText (now (table .entry)) number count place (now (output .entry))) (now (buffer .exit)) r ⌝ }
+{
+    let mut end = put_answer(number, count, place, buffer, 0);
+    end = put_byte(b'\n', buffer, end);
+    if number != 0 {
+        return end;
+    }
+    put_solved(table, output, buffer, end)
+}
+
+// The reader's answer as a line.
+pub fn read_line(number: u32, place: usize, c: u32, r: u32, v: u32, e: u32, m: u32, buffer: &mut [u8]) -> usize
+    ensures { λ end. ⌜ Appended (now (buffer .entry)) 0 (readText number place c r v e m) (now (buffer .exit)) end ⌝ }
+{
+    let end = put_numbers(
+        &[
+            number as usize,
+            place,
+            c as usize,
+            r as usize,
+            v as usize,
+            e as usize,
+            m as usize,
+        ],
+        buffer,
+        0,
+    );
+    put_byte(b'\n', buffer, end)
+}
+
+// A part of a table as a line.
+pub fn hex_line(part: &[u8], buffer: &mut [u8]) -> usize
+    ensures { λ r. ⌜ Appended (now (buffer .entry)) 0 (lineText (now (part .entry))) (now (buffer .exit)) r ⌝ }
+{
+    let end = put_hex(part, buffer, 0);
+    put_byte(b'\n', buffer, end)
+}
+
+// The solver's answer as a line, with the output.
+pub fn solve_line(number: u32, count: u32, place: usize, output: &[u8], buffer: &mut [u8]) -> usize
+    ensures { λ r. ⌜ Appended (now (buffer .entry)) 0 (solveText number count place (now (output .entry))) (now (buffer .exit)) r ⌝ }
+{
+    let mut end = put_answer(number, count, place, buffer, 0);
+    end = put_byte(b' ', buffer, end);
+    end = put_hex(output, buffer, end);
+    put_byte(b'\n', buffer, end)
+}

@@ -1,0 +1,74 @@
+/* Asks Makrothel, through its interface for C, about the worked example and about a table that is refused. */
+
+#include "makrothel.h"
+
+/* Declared here because the kit has no headers of C. */
+int printf(const char *format, ...);
+
+/* One constant, one role, two variables, one restriction, two lines: v0 below some r0 v1, and v1 below c0. */
+static const uint8_t worked[] = {0x56, 0x4F, 0x43, 0x01, 0x00, 0x01, 0x01, 0x02, 0x01,
+                                 0x02, 0x00, 0x61, 0x01, 0x60, 0x40, 0x01, 0x61, 0x20};
+
+/* The same, but the last code names a constant that is not declared. */
+static const uint8_t undeclared[] = {0x56, 0x4F, 0x43, 0x01, 0x00, 0x01, 0x01, 0x02, 0x01,
+                                     0x02, 0x00, 0x61, 0x01, 0x60, 0x40, 0x01, 0x61, 0x21};
+
+static void print_bytes(const uint8_t *bytes, uint64_t length)
+{
+    for (uint64_t i = 0; i < length; i++) printf(" %02x", bytes[i]);
+}
+
+static void read_table(const uint8_t *table, size_t length)
+{
+    uint64_t numbers[6];
+    uint32_t number = makrothel_read(table, length, numbers);
+    printf("read: number %u, place %llu, c %llu, r %llu, v %llu, e %llu, m %llu\n", number,
+           (unsigned long long)numbers[0], (unsigned long long)numbers[1], (unsigned long long)numbers[2],
+           (unsigned long long)numbers[3], (unsigned long long)numbers[4], (unsigned long long)numbers[5]);
+}
+
+static void show_line(const uint8_t *table, size_t length, uint32_t n)
+{
+    uint64_t span[2];
+    uint32_t found = makrothel_line(table, length, n, span);
+    printf("line %u: found %u, start %llu, length %llu:", n, found, (unsigned long long)span[0],
+           (unsigned long long)span[1]);
+    print_bytes(table + span[0], span[1]);
+    printf("\n");
+}
+
+/* Solves with an output of so many bytes, at most 12, each AA before the call. */
+static void solve_table(const uint8_t *table, size_t length, uint32_t budget, size_t room)
+{
+    uint8_t output[12];
+    uint64_t numbers[2];
+    for (size_t i = 0; i < sizeof output; i++) output[i] = 0xAA;
+    uint32_t number = makrothel_solve(table, length, budget, output, room, numbers);
+    printf("solve, budget %u, room %u: number %u, count %llu, place %llu, output", budget, (unsigned)room, number,
+           (unsigned long long)numbers[0], (unsigned long long)numbers[1]);
+    print_bytes(output, sizeof output);
+    printf("\n");
+}
+
+int main(void)
+{
+    printf("the worked example\n");
+    read_table(worked, sizeof worked);
+    show_line(worked, sizeof worked, 0);
+    show_line(worked, sizeof worked, 1);
+    show_line(worked, sizeof worked, 2);
+    solve_table(worked, sizeof worked, 1000000, 10);
+    solve_table(worked, sizeof worked, 13, 10);
+    solve_table(worked, sizeof worked, 1000000, 7);
+
+    printf("a constant that is not declared\n");
+    read_table(undeclared, sizeof undeclared);
+    show_line(undeclared, sizeof undeclared, 0);
+    solve_table(undeclared, sizeof undeclared, 1000000, 10);
+
+    printf("no bytes\n");
+    read_table(worked, 0);
+    show_line(worked, 0, 0);
+    solve_table(worked, 0, 1000000, 0);
+    return 0;
+}

@@ -18,13 +18,13 @@ cast-result c = search needs
 shl-result : tie.Need-shl-result
 shl-result c = search needs
 
--- src/lib.rt:156:5
-sub-result : tie.Need-sub-result
-sub-result c = rw (power-fits (c .args .n) (omega arith)) (pow-pos (c .args .n))
-
 -- src/lib.rt:152:1
 returns : tie.Need-returns
 returns c = rw (power-fits (c .args .n) (omega arith)) (let h : 0 < 2 ^ c .args .n = pow-pos (c .args .n) in omega arith)
+
+-- src/lib.rt:156:5
+sub-result : tie.Need-sub-result
+sub-result c = rw (power-fits (c .args .n) (omega arith)) (pow-pos (c .args .n))
 
 pub last-set-spec : {M : Type 1} → statement M
 last-set-spec = tie.close (tie.spec cast-result shl-result sub-result returns)

@@ -61,7 +61,7 @@ walk-from-root-requires c κs =
 
 -- src/lib.rt:154:1
 returns : tie.Need-returns
-returns c = search needs
+returns c = (search needs, omega arith)
 
 pub walk-spec : {M : Type 1} → statement M
 walk-spec =

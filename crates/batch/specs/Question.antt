@@ -49,8 +49,10 @@ solveReply s b out = solveReplyOf (answer s b out)
 -- the output is filled with the byte AA before the call
 unfoldable pub reply : Question → List ℕ → List ℕ
 reply q s =
-    elim (eqb (q .kind) 1)
-    [ true ↦ readReply s
-    | false ↦ elim (eqb (q .kind) 2)
-      [ true ↦ lineReply s (q .number)
-      | false ↦ solveReply s (q .number) (replicate (q .room) 0xAA) ] ]
+    elim (eqb (q .kind) 1) [
+      | true ↦ readReply s
+      | false ↦ elim (eqb (q .kind) 2) [
+        | true ↦ lineReply s (q .number)
+        | false ↦ solveReply s (q .number) (replicate (q .room) 0xAA)
+      ]
+    ]

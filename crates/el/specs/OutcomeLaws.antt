@@ -4,8 +4,7 @@
 --   first-solution  == the first node that ends the walk is the first assignment that solves
 --   outcome-within  == within the budget the outcome is that first assignment, or that there is none
 --   outcome-beyond  == beyond the budget it is the budget
---   solved-says, nothing-says, budget-says == what each outcome says
---   solved-given, nothing-given == when each is given
+--   outcome-says    == what each outcome says, and when it is given
 --   more-budget     == a larger budget gives the same outcome
 use mathlib.Core.Path.{_≡_, refl, sym, ap, ap₂, subst, _∙_, fun-ext}
 use mathlib.Core.Bool.{Bool, true, false, _&&_, not}

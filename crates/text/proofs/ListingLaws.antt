@@ -163,7 +163,7 @@ module _ (t : Table) (s : ℕ) where
   pub below-turn : {b m a : List ℕ} {at i e r : ℕ} {later later′ in-set : Bool} → Below b at i later m e → Appended m e (atomOf t s i later) a r → in-set ≡ bit i s → later′ ≡ (later || in-set) → Below b at (i + 1) later′ a r
   below-turn {b} {m} {a} {at} {i} {e} {r} {later} {later′} {in-set} h x p q = record {
     later-is = q ∙ ap₂ _||_ (h .later-is) p ∙ any-more i;
-    written = appended-as (appended-then (h .written) x) (ap (λ (l : Bool). joined ampersand (atomTexts i) ++ atomOf t s i l) (h .later-is) ∙ set-more i)
+    written = appended-as (appended-then (h .written) x) (ap (λ (l : Bool). joined ampersand (atomTexts i) ++ atomOf t s i l) (h .later-is) ∙ set-more i);
   }
 
   conjunction-some : (ts : List (List ℕ)) → any ts ≡ true → joined ampersand ts ≡ conjunctionText ts

@@ -76,7 +76,7 @@ module _ (b : List ℕ) (at : ℕ) where
   unfolding fitting put
   appended-none = record {
     bytes = sym (ap (λ (f : List ℕ). take at b ++ (f ++ drop (at + length f) b)) (take-nil (length b - at)) ∙ ap (λ (k : ℕ). take at b ++ drop k b) (let z : at + 0 ≡ at = omega arith in z) ∙ take-append-drop at b);
-    end = rw take-nil (omega arith)
+    end = rw take-nil (omega arith);
   }
 
   pub appended-full : (t : List ℕ) → length b ≤ at → Appended b at t b at
@@ -122,16 +122,15 @@ pub appended-then : {b s t m a : List ℕ} {at q r : ℕ} → Appended b at s m 
 appended-then {b} {s} {t} {m} {a} {at} {q} {r} h k = record {
   bytes = k .bytes ∙ ap₂ (λ (x : List ℕ) (i : ℕ). put x i t) (h .bytes) (h .end) ∙ put-then b at s t;
   end =
-    let e : length (fitting b at (s ++ t)) ≡ length (fitting b at s) + length (fitting m q t) = ap length (fitting-then b at s t m q (appended-length h) (h .end)) ∙ length-append (fitting b at s) (fitting m q t) in
-    omega (arith, h .end, k .end)
+      let e : length (fitting b at (s ++ t)) ≡ length (fitting b at s) + length (fitting m q t) = ap length (fitting-then b at s t m q (appended-length h) (h .end)) ∙ length-append (fitting b at s) (fitting m q t) in
+      omega (arith, h .end, k .end);
 }
 
 pub appended-room : {b t a : List ℕ} {at r : ℕ} → Appended b at t a r → at + length t ≤ length b
     → (r ≡ at + length t) × (take r a ≡ take at b ++ t) × (drop r a ≡ drop r b)
 appended-room {b} {t} {a} {at} {r} h room =
     let f : fitting b at t ≡ t = fitting-all b at t room in
-    let e : r ≡ at + length t = h .end ∙ ap (λ (x : List ℕ). at + length x) f in
-    (
+    let e : r ≡ at + length t = h .end ∙ ap (λ (x : List ℕ). at + length x) f in (
       e,
       ap₂ (λ (i : ℕ) (x : List ℕ). take i x) (h .end) (h .bytes) ∙ put-take b at t (omega arith) ∙ ap (λ (x : List ℕ). take at b ++ x) f,
       ap₂ (λ (i : ℕ) (x : List ℕ). drop i x) (h .end) (h .bytes) ∙ put-drop b at t (omega arith) ∙ ap (λ (i : ℕ). drop i b) (sym (h .end)),

@@ -195,7 +195,7 @@ pub read-fits : (number place c r v e m : ℕ) → number < 2 ^ 32 → place < 2
 unfolding readText
 read-fits number place c r v e m n= p= c= r= v= e= m= =
     let p : length (numbersText (number ∷ place ∷ c ∷ r ∷ v ∷ e ∷ m ∷ [])) ≤ 7 * 21 =
-        numbers-length (number ∷ place ∷ c ∷ r ∷ v ∷ e ∷ m ∷ []) (omega arith, (omega arith, (omega arith, (omega arith, (omega arith, (omega arith, (omega arith, tt))))))) in
+    numbers-length (number ∷ place ∷ c ∷ r ∷ v ∷ e ∷ m ∷ []) (omega arith, (omega arith, (omega arith, (omega arith, (omega arith, (omega arith, (omega arith, tt))))))) in
     simp length-append (omega arith)
 
 pub line-fits : (part : List ℕ) → length part ≤ 1024 → length (lineText part) ≤ 4096

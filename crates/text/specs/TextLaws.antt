@@ -101,7 +101,7 @@ decimal-is = decimal-from Decimal one more
           some = simp length-append (omega arith);
           digits = subst T (sym (everyOf-append (λ d. leb 0x30 d && leb d 0x39) ds (digit (n % 10) ∷ []))) (and-make (everyOf (λ d. leb 0x30 d && leb d 0x39) ds) _ (x .digits) (digits-right (n % 10) (omega arith)));
           value = value-more 0 ds (digit (n % 10)) ∙ (let z : 10 * valueOf 0 ds + (digit (n % 10) - 0x30) ≡ n = omega arith in z);
-          no-zero-first = λ l. subst (λ (d : ℕ). 0x30 < d) (sym (first-more ds (digit (n % 10)) (x .some))) (first-digit (n / 10) ds (omega arith) x)
+          no-zero-first = λ l. subst (λ (d : ℕ). 0x30 < d) (sym (first-more ds (digit (n % 10)) (x .some))) (first-digit (n / 10) ds (omega arith) x);
         }
 
 pub decimal-length : (k n : ℕ) → n < 10 ^ suc k → length (decimal n) ≤ suc k

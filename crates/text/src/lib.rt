@@ -274,7 +274,14 @@ fn put_answer(number: u32, count: u32, place: usize, buffer: &mut [u8], at: usiz
 
 // The text of the solver's answer, at the start of the buffer: the first line, and for "solved" a line per variable. Returns how many
 // bytes were written: the whole text, or where it is longer than the buffer as much as fits.
-pub fn listing(table: &[u8], number: u32, count: u32, place: usize, output: &[u8], buffer: &mut [u8]) -> usize
+pub fn listing(
+    table: &[u8],
+    number: u32,
+    count: u32,
+    place: usize,
+    output: &[u8],
+    buffer: &mut [u8],
+) -> usize
     ensures { λ r. ⌜ Appended (now (buffer .entry)) 0 (listingText (now (table .entry)) number count place (now (output .entry))) (now (buffer .exit)) r ⌝ }
 {
     let mut end = put_answer(number, count, place, buffer, 0);
@@ -286,7 +293,16 @@ pub fn listing(table: &[u8], number: u32, count: u32, place: usize, output: &[u8
 }
 
 // The reader's answer as a line.
-pub fn read_line(number: u32, place: usize, c: u32, r: u32, v: u32, e: u32, m: u32, buffer: &mut [u8]) -> usize
+pub fn read_line(
+    number: u32,
+    place: usize,
+    c: u32,
+    r: u32,
+    v: u32,
+    e: u32,
+    m: u32,
+    buffer: &mut [u8],
+) -> usize
     ensures { λ end. ⌜ Appended (now (buffer .entry)) 0 (readText number place c r v e m) (now (buffer .exit)) end ⌝ }
 {
     let end = put_numbers(

@@ -47,10 +47,6 @@ part-put-set-start c = search needs
 part-put-set-end : tie.Need-part-put-set-end Inv-loop μ-loop
 part-put-set-end c = search needs
 
--- src/lib.rt:28:9
-put-set-requires : tie.Need-put-set-requires Inv-loop μ-loop
-put-set-requires c κs = part-room (4 * c .before .before .loop .i) (c .before .before .loop .out) (omega arith)
-
 -- src/lib.rt:29:9
 add-i : tie.Need-add-i Inv-loop μ-loop
 add-i c = search needs
@@ -68,6 +64,10 @@ loop-again c =
     let e : _ ≡ written (take (l .i + 1) (a .t2)) (a .out .now) = turn (l .i) (a .t2) _ (l .out) (c .before .before .put-set .last .0) (omega arith) (omega arith) (l .inv .2) (c .before .before .put-set .ensures) in
     let k : length (take (l .i + 1) (a .t2)) ≡ l .i + 1 = length-take-le (l .i + 1) (a .t2) (omega arith) in
     (omega arith, ap length e ∙ written-length (take (l .i + 1) (a .t2)) (a .out .now) (omega arith), e))
+
+-- src/lib.rt:28:9
+put-set-requires : tie.Need-put-set-requires Inv-loop μ-loop
+put-set-requires c κs = part-room (4 * c .before .before .loop .i) (c .before .before .loop .out) (omega arith)
 
 -- src/lib.rt:20:1
 same-length : tie.Need-same-length Inv-loop μ-loop

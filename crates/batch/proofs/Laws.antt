@@ -4,15 +4,15 @@
 --   question-..           == the test of a question, by which part of it fails
 --   read-is, line-is, solve-is == the answer of a call, written to a line that is long enough
 --   reply-read, reply-line, reply-solve == the answer to a question, by its kind
---   front                 == the first bytes of an array that is filled with one byte
+--   front, front-length   == the first bytes of an array that is filled with one byte
 use mathlib.Core.Path.{_≡_, refl, sym, ap, ap₂, _∙_}
 use mathlib.Core.Bool.{Bool, true, false, _&&_, cond}
 use mathlib.Core.List.{List, [], _∷_}
-use Prim.Native.Nat.{ℕ, zero, suc, _+_, _*_, _^_, _≤_, _<_, min}
+use Prim.Native.Nat.{ℕ, zero, suc, _+_, _^_, _≤_, _<_, min}
 use native.Mathlib.Omega.{arith}
-use lib.Dec.{T, eqb, leb, ltb}
-use lib.ListN.{length, take, drop, replicate, length-take, length-drop}
-use borrow.Author.Tests.{le-leb, lt-leb, leb-true, leb-false, eq-eqb, ne-eqb}
+use lib.Dec.{eqb, leb, ltb}
+use lib.ListN.{length, take, drop, replicate, length-take, length-drop, length-replicate}
+use borrow.Author.Tests.{le-leb, lt-leb, leb-true, eq-eqb, ne-eqb}
 use Rattle.io.specs.Counts.{Counts}
 use Rattle.table.specs.Reading.{byteAt, reading, isReadable}
 use Rattle.table.specs.Layout.{lineStart}
@@ -88,10 +88,16 @@ module _ {b after : List ℕ} {r : ℕ} (room : 4096 ≤ length b) (s : List ℕ
   solve-is budget before out a e n c p h = at-start room (solve-fits (a .number) (a .count) (a .place) out n c p h) (ap solveReplyOf e)
 
 -- the first bytes of an array that is filled with one byte
-pub front : (n m x : ℕ) → n ≤ m → take n (replicate m x) ≡ replicate n x
-front zero m x h = refl
-front (suc n) zero x h = absurd (let z : ⊥ = omega arith in z)
-front (suc n) (suc m) x h = ap (λ (l : List ℕ). x ∷ l) (front n m x (omega arith))
+front-all : (n m x : ℕ) → n ≤ m → take n (replicate m x) ≡ replicate n x
+front-all zero m x h = refl
+front-all (suc n) zero x h = absurd (let z : ⊥ = omega arith in z)
+front-all (suc n) (suc m) x h = ap (λ (l : List ℕ). x ∷ l) (front-all n m x (omega arith))
+
+pub front : (n m x : ℕ) (l : List ℕ) → l ≡ replicate m x → n ≤ m → take n l ≡ replicate n x
+front n m x l e h = ap (take n) e ∙ front-all n m x h
+
+pub front-length : (n m x : ℕ) (l : List ℕ) → l ≡ replicate m x → n ≤ m → length (take n l) ≡ n
+front-length n m x l e h = ap length (front n m x l e h) ∙ length-replicate n x
 
 module _ (q : Question) (s : List ℕ) where
   -- the answers by the tests of the kind

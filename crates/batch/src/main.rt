@@ -2,7 +2,7 @@
 // length of the output in two, the length of the table in two, little-endian, and the table.
 ghost use mathlib.Core.Path.{_≡_};
 ghost use Prim.Native.Nat.{_+_, _*_, _≤_, _<_, min};
-ghost use lib.ListN.{length, take};
+ghost use lib.ListN.{length, take, replicate};
 ghost use Rattle.io.specs.Counts.{Counts};
 ghost use Rattle.table.specs.Reading.{byteAt};
 ghost use Rattle.batch.specs.Question.{questionOf, isQuestion, readReply, lineReply, solveReply, reply};
@@ -37,6 +37,20 @@ fn two_at(bytes: &[u8], at: usize) -> usize
     ensures { λ r. ⌜ r ≡ byteAt (now (bytes .entry)) at + 256 * byteAt (now (bytes .entry)) (at + 1) ⌝ }
 {
     wide(bytes[at]) + 256 * wide(bytes[at + 1])
+}
+
+// Room for a table. The promise gives only the length, which lending it as a slice needs.
+fn zeros() -> [u8; MOST]
+    ensures { λ r. ⌜ 1024 ≡ length r ⌝ }
+{
+    [0; MOST]
+}
+
+// An output before the call.
+fn filled() -> [u8; MOST]
+    ensures { λ r. ⌜ r ≡ replicate 1024 0xAA ⌝ }
+{
+    [0xAA; MOST]
 }
 
 // What the nine bytes before a table say.
@@ -107,7 +121,7 @@ fn reply_to(q: Question, table: &[u8], line: &mut [u8]) -> usize
         return line_reply(table, q.number, line);
     }
     let room = q.room;
-    let mut output = [0xAAu8; MOST];
+    let mut output = filled();
     solve_reply(table, q.number, &mut output[..room], line)
 }
 
@@ -138,11 +152,11 @@ fn answer_one() -> bool {
         return cut();
     }
     let length = q.length;
-    let mut table = [0u8; MOST];
+    let mut table = zeros();
     if !is_read(&mut table, length) {
         return cut();
     }
-    let mut line = [0u8; 4096];
+    let mut line = io::buffer();
     let end = reply_to(q, &table[..length], &mut line);
     io::write_all(STDOUT_FILENO, &line[..end])
 }

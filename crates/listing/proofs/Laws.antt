@@ -1,14 +1,14 @@
 -- The law that carries the report to its text.
 --
 --   report-is == the text of the solver's answer, written to a buffer that is long enough, is the report
-use mathlib.Core.Path.{_≡_, ap, subst, _∙_}
+use mathlib.Core.Path.{_≡_, ap, _∙_}
 use mathlib.Core.List.{List}
 use Prim.Native.Nat.{ℕ, _^_, _≤_, _<_}
 use native.Mathlib.Omega.{arith}
 use lib.ListN.{length, take, replicate}
 use Rattle.io.specs.Counts.{Counts}
 use Rattle.text.specs.Append.{Appended}
-use Rattle.text.specs.AppendLaws.{appended-as, appended-whole}
+use Rattle.text.specs.AppendLaws.{appended-whole}
 use Rattle.text.specs.Listing.{listingText}
 use Rattle.text.specs.FitsLaws.{listing-fits}
 use Rattle.makrothel.specs.declared.SolveAnswer.{SolveAnswer}

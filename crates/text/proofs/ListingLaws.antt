@@ -6,10 +6,10 @@
 --   variable-line, lines-turn == the lines of the variables
 --   solved-refused, solved-short, solved-all == the lines of all variables
 --   listing-other, listing-solved == the whole text
-use mathlib.Core.Path.{_≡_, refl, sym, ap, ap₂, subst, _∙_}
-use mathlib.Core.Bool.{Bool, true, false, _||_, not, cond}
-use mathlib.Core.List.{List, [], _∷_, _++_, append-assoc, append-nil, map, map-append}
-use mathlib.Core.Option.{Option, none, some}
+use mathlib.Core.Path.{_≡_, refl, sym, ap, ap₂, _∙_}
+use mathlib.Core.Bool.{Bool, true, false, _||_, cond}
+use mathlib.Core.List.{List, [], _∷_, _++_, append-nil, map, map-append}
+use mathlib.Core.Option.{none, some}
 use Prim.Native.Nat.{ℕ, zero, suc, _+_, _*_, _-_, _≤_, _<_}
 use native.Mathlib.Omega.{arith}
 use native.Mathlib.Numerals.{add-one}
@@ -17,15 +17,13 @@ use lib.Dec.{T, ltb}
 use lib.ListN.{length}
 use borrow.Author.Tests.{lt-ltb, le-ltb}
 use Rattle.el.specs.Test.{bit}
-use Rattle.el.specs.Table.{Filler, topF, Row, Table, rowAt, atoms}
+use Rattle.el.specs.Table.{Filler, topF, Table, rowAt, atoms}
 use Rattle.table.specs.declared.Kind.{Kind}
 use Rattle.table.specs.declared.Kind.the-variants.{Top, Constant, Restriction, Variable, Other}
-use Rattle.table.specs.declared.Verdict.{Verdict}
 use Rattle.table.specs.declared.Verdict.the-variants.{Refused, Readable}
 use Rattle.table.specs.Code.{kindOf, within, fillerOfKind, fillerOf}
 use Rattle.table.specs.Reading.{byteAt, Reading, refusal, readable, reading, theTable, tableOf, isReadable}
 use Rattle.table.specs.Step.{verdictOf}
-use Rattle.table.specs.Layout.{Layout}
 use Rattle.table.specs.LayoutLaws.{layout}
 use Rattle.text.specs.Append.{Appended}
 use Rattle.text.specs.AppendLaws.{appended-none, appended-then, appended-as}

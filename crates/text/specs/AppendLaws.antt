@@ -16,8 +16,8 @@ use Prim.Native.Nat.{ℕ, zero, suc, _+_, _-_, _≤_, _<_}
 use native.Mathlib.Omega.{arith}
 use native.Mathlib.Numerals.{add-one}
 use native.Mathlib.Decide.{decLe}
-use lib.ListN.{length, take, drop, set, length-append, length-take, length-drop, length-set, take-append-drop, drop-of-length-le}
-use lib.Seq.{take-all, take-nil, drop-nil, length-take-le, take-at, drop-at, drop-drop, set-split}
+use lib.ListN.{length, take, drop, set, length-append, length-take, length-drop, take-append-drop, drop-of-length-le}
+use lib.Seq.{take-all, take-nil, length-take-le, take-at, drop-at, drop-drop, set-split}
 use Rattle.text.specs.Append.{fitting, put, Appended}
 
 -- how much fits, and what is left for a second text

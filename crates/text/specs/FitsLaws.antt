@@ -6,25 +6,25 @@
 --   atom-length    == an atom has at most 7 characters
 --   listing-fits   == the whole text of an answer fits
 --   read-fits, line-fits, solve-fits == the lines of the batch program fit
-use mathlib.Core.Path.{_≡_, refl, sym, ap, subst, _∙_}
-use mathlib.Core.Bool.{Bool, true, false, cond}
+use mathlib.Core.Path.{_≡_, refl, sym, subst}
+use mathlib.Core.Bool.{Bool, true, false}
 use mathlib.Core.List.{List, [], _∷_, _++_, map, map-append}
 use Prim.Native.Nat.{ℕ, zero, suc, _+_, _*_, _-_, _^_, _≤_, _<_}
 use native.Mathlib.Omega.{arith}
-use native.Mathlib.Nat.{suc-mul, mul-le-mul-right}
+use native.Mathlib.Nat.{suc-mul}
 use native.Mathlib.Decide.{decLt}
 use lib.Dec.{T, ltb, ltb→lt}
-use lib.ListN.{length, getD, length-append, length-map}
+use lib.ListN.{length, length-append, length-map}
 use borrow.Author.Tests.{lt-ltb, le-ltb}
 use Rattle.el.specs.Test.{bit, everyOf}
 use Rattle.el.specs.TestLaws.{and-left, and-right, everyOf-at}
-use Rattle.el.specs.Table.{Filler, topF, constantF, variableF, Row, Table, rowAt, atoms, fillerDeclared, rowDeclared, lineDeclared, declared}
-use Rattle.table.specs.Reading.{byteAt, Reading, refusal, readable, reading, theTable, tableOf, isReadable}
+use Rattle.el.specs.Table.{Filler, topF, constantF, variableF, Row, rowAt, atoms, fillerDeclared, rowDeclared, lineDeclared, declared}
+use Rattle.table.specs.Reading.{Reading, refusal, readable, reading, theTable, tableOf, isReadable}
 use Rattle.table.specs.Layout.{Layout}
 use Rattle.table.specs.LayoutLaws.{layout}
-use Rattle.text.specs.Text.{space, newline, decimal, behind, joined, numbersText, hexText}
+use Rattle.text.specs.Text.{space, decimal, behind, joined, numbersText, hexText}
 use Rattle.text.specs.TextLaws.{decimal-length, hex-length}
-use Rattle.text.specs.Listing.{numberAt, topText, constantText, variableText, fillerText, rowText, atomText, atomsIn, ampersand, conjunctionText, setText, variableLine, variableLines, solvedText, underNumber, firstLine, listingText}
+use Rattle.text.specs.Listing.{numberAt, constantText, fillerText, rowText, atomText, atomsIn, ampersand, conjunctionText, setText, variableLine, variableLines, solvedText, underNumber, firstLine, listingText}
 use Rattle.text.specs.Batch.{readText, lineText, solveText}
 
 abbrev pub Short : ℕ → List (List ℕ) → Type 0

@@ -7,12 +7,12 @@ ghost use Prim.Native.Nat.{_+_, _*_, _≤_, _<_};
 ghost use lib.Dec.{T};
 ghost use lib.ListN.{length};
 ghost use Rattle.el.specs.Test.{bit};
-ghost use Rattle.el.specs.Table.{rowAt, atoms};
+ghost use Rattle.el.specs.Table.{rowAt};
 ghost use Rattle.table.specs.Code.{kindOf};
 ghost use Rattle.table.specs.Reading.{byteAt, reading, tableOf, isReadable};
 ghost use Rattle.text.specs.Append.{Appended};
 ghost use Rattle.text.specs.Text.{digit, decimal, numbersText, bytesText, hexText};
-ghost use Rattle.text.specs.Listing.{numberAt, codeText, rowText, atomText, atomOf, setText, variableLine, variableLines, solvedText, firstLine, listingText};
+ghost use Rattle.text.specs.Listing.{numberAt, codeText, rowText, atomText, atomOf, setText, variableLine, variableLines, solvedText, listingText};
 ghost use Rattle.text.specs.Batch.{readText, lineText, solveText};
 use table::Kind;
 use table::Verdict;
@@ -146,7 +146,8 @@ fn put_row(table: &[u8], k: usize, buffer: &mut [u8], at: usize) -> usize
     ensures { λ r. ⌜ Appended (now (buffer .entry)) at (rowText (rowAt (tableOf (now (table .entry)) .rows) k)) (now (buffer .exit)) r ⌝ }
 {
     let place = table::HEADER + 2 * k;
-    let mut end = put_named(b'r', byte_at(table, place), buffer, at);
+    let role = byte_at(table, place);
+    let mut end = put_named(b'r', role, buffer, at);
     end = put_byte(b'.', buffer, end);
     put_filler(table[place + 1], buffer, end)
 }

@@ -1,16 +1,17 @@
-use Rattle.text.proofs.Laws.{decimal-one, decimal-then}
-use native.Mathlib.Omega.{arith}
+-- `text::put_decimal` meets its contract. The measure is the number: a tenth of it is less where it has more digits than one.
 use borrow.Author.Needs.{needs}
 use Prim.Native.Nat.{ℕ, _<_}
+use native.Mathlib.Omega.{arith}
 use borrow.Fn.Kinds.{In}
 use borrow.Fn.PlainCycle.{Measures, is, falls, and}
+use Rattle.text.proofs.Laws.{decimal-one, decimal-then}
+use Rattle.text.proofs.+put_decimal.Tie.{close}
+use Rattle.text.proofs.+put_decimal.{statement}
 use Rattle.text.proofs.put_decimal.Reads as put-decimal
 use Rattle.text.proofs.put_decimal.Kinds as put-decimal-kinds
 use Rattle.text.proofs.+put_decimal.Lts-put_decimal as put-decimal-lts
 use Rattle.text.proofs.digit_of.Reads as digit-of-reads
 use Rattle.text.proofs.put_byte.Reads as put-byte-reads
-use Rattle.text.proofs.+put_decimal.{statement}
-use Rattle.text.proofs.+put_decimal.Tie.{close}
 
 abbrev μ-put-decimal : Measures 1 put-decimal-kinds.ps ℕ
 μ-put-decimal κs a = a .0
@@ -23,7 +24,6 @@ abbrev put-decimal-below : ℕ → In 1 put-decimal-kinds.ps
 put-decimal-below t =
     and 1 put-decimal-kinds.ps (falls 1 put-decimal-kinds.ps _<_ μ-put-decimal t) put-decimal.Pre
 
--- src/lib.rt:70:25
 put-decimal-digit-of-requires : (t : ℕ) → put-decimal-lts.Need-digit-of-requires (
   digit-of-reads.Asked,
   digit-of-reads.Learnt,
@@ -34,7 +34,6 @@ put-decimal-digit-of-requires : (t : ℕ) → put-decimal-lts.Need-digit-of-requ
 ) (put-decimal-at t) put-decimal.Post
 put-decimal-digit-of-requires t c κs = search needs
 
--- src/lib.rt:70:9
 put-decimal-put-byte-requires : (t : ℕ) → put-decimal-lts.Need-put-byte-requires (
   digit-of-reads.Asked,
   digit-of-reads.Learnt,
@@ -45,7 +44,6 @@ put-decimal-put-byte-requires : (t : ℕ) → put-decimal-lts.Need-put-byte-requ
 ) (put-decimal-at t) put-decimal.Post
 put-decimal-put-byte-requires t c κs = search needs
 
--- src/lib.rt:70:9
 put-decimal-same-length : (t : ℕ) → put-decimal-lts.Need-same-length (
   digit-of-reads.Asked,
   digit-of-reads.Learnt,
@@ -56,7 +54,6 @@ put-decimal-same-length : (t : ℕ) → put-decimal-lts.Need-same-length (
 ) (put-decimal-at t) put-decimal.Post
 put-decimal-same-length t c = search needs
 
--- src/lib.rt:70:9
 put-decimal-returns : (t : ℕ) → put-decimal-lts.Need-returns (
   digit-of-reads.Asked,
   digit-of-reads.Learnt,
@@ -67,7 +64,6 @@ put-decimal-returns : (t : ℕ) → put-decimal-lts.Need-returns (
 ) (put-decimal-at t) put-decimal.Post
 put-decimal-returns t c = decimal-one _ (omega arith) (c .before .before .before .before .digit-of .ensures) (c .before .before .put-byte .ensures)
 
--- src/lib.rt:72:9
 put-decimal-put-decimal-requires : (t : ℕ) → put-decimal-lts.Need-put-decimal-requires (
   digit-of-reads.Asked,
   digit-of-reads.Learnt,
@@ -78,7 +74,6 @@ put-decimal-put-decimal-requires : (t : ℕ) → put-decimal-lts.Need-put-decima
 ) (put-decimal-at t) put-decimal.Post
 put-decimal-put-decimal-requires t c κs = omega arith
 
--- src/lib.rt:73:14
 put-decimal-digit-of-requires-2 : (t : ℕ) → put-decimal-lts.Need-digit-of-requires-2 (
   digit-of-reads.Asked,
   digit-of-reads.Learnt,
@@ -89,7 +84,6 @@ put-decimal-digit-of-requires-2 : (t : ℕ) → put-decimal-lts.Need-digit-of-re
 ) (put-decimal-at t) put-decimal.Post
 put-decimal-digit-of-requires-2 t c κs = search needs
 
--- src/lib.rt:73:5
 put-decimal-put-byte-requires-2 : (t : ℕ) → put-decimal-lts.Need-put-byte-requires-2 (
   digit-of-reads.Asked,
   digit-of-reads.Learnt,
@@ -100,7 +94,6 @@ put-decimal-put-byte-requires-2 : (t : ℕ) → put-decimal-lts.Need-put-byte-re
 ) (put-decimal-at t) put-decimal.Post
 put-decimal-put-byte-requires-2 t c κs = search needs
 
--- src/lib.rt:66:1
 put-decimal-same-length-2 : (t : ℕ) → put-decimal-lts.Need-same-length-2 (
   digit-of-reads.Asked,
   digit-of-reads.Learnt,
@@ -111,7 +104,6 @@ put-decimal-same-length-2 : (t : ℕ) → put-decimal-lts.Need-same-length-2 (
 ) (put-decimal-at t) put-decimal.Post
 put-decimal-same-length-2 t c = search needs
 
--- src/lib.rt:66:1
 put-decimal-returns-2 : (t : ℕ) → put-decimal-lts.Need-returns-2 (
   digit-of-reads.Asked,
   digit-of-reads.Learnt,

@@ -1,19 +1,15 @@
-use native.Mathlib.Omega.{arith}
+-- `text::byte_at` meets its contract. A byte is below 256.
 use borrow.Author.Needs.{needs}
+use native.Mathlib.Omega.{arith}
 use Rattle.text.proofs.byte_at.Statement.{statement}
 use Rattle.text.proofs.byte_at.Tie as tie
-use Rattle.text.proofs.byte_at.Reads as reads
-use Rattle.text.proofs.byte_at.Lts as lts
 
--- src/lib.rt:95:5
 shared-slice-read-result : tie.Need-shared-slice-read-result
 shared-slice-read-result c = search needs
 
--- src/lib.rt:95:5
 cast-result : tie.Need-cast-result
 cast-result c = omega (arith, c .shared-slice-known .given (c .before .args .at))
 
--- src/lib.rt:91:1
 returns : tie.Need-returns
 returns c = omega (arith, c .shared-slice-known .given (c .before .args .at))
 

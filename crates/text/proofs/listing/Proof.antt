@@ -1,38 +1,27 @@
-use Rattle.text.proofs.ListingLaws.{listing-other, listing-solved}
+-- `text::listing` meets its contract. The first line alone, or with the lines of the variables behind it.
 use borrow.Author.Needs.{needs}
+use Rattle.text.proofs.ListingLaws.{listing-other, listing-solved}
 use Rattle.text.proofs.listing.Statement.{statement}
 use Rattle.text.proofs.listing.Tie as tie
-use Rattle.text.proofs.listing.Reads as reads
-use Rattle.text.proofs.listing.Lts as lts
-use Rattle.text.proofs.put_answer.Reads as put-answer-reads
-use Rattle.text.proofs.put_byte.Reads as put-byte-reads
-use Rattle.text.proofs.put_solved.Reads as put-solved-reads
 
--- src/lib.rt:278:9
 put-answer-requires : tie.Need-put-answer-requires
 put-answer-requires c κs = search needs
 
--- src/lib.rt:279:5
 put-byte-requires : tie.Need-put-byte-requires
 put-byte-requires c κs = search needs
 
--- src/lib.rt:281:9
 same-length : tie.Need-same-length
 same-length c = search needs
 
--- src/lib.rt:281:9
 returns : tie.Need-returns
 returns c = listing-other _ _ _ _ _ (c .if1 .taken) (c .before .before .before .before .before .before .before .put-answer .ensures) (c .before .before .before .put-byte .ensures)
 
--- src/lib.rt:283:5
 put-solved-requires : tie.Need-put-solved-requires
 put-solved-requires c κs = search needs
 
--- src/lib.rt:275:1
 same-length-2 : tie.Need-same-length-2
 same-length-2 c = search needs
 
--- src/lib.rt:275:1
 returns-2 : tie.Need-returns-2
 returns-2 c = listing-solved _ _ _ _ _ (c .before .before .before .before .if1 .left) (c .before .before .before .before .before .before .before .before .before .before .before .put-answer .ensures) (c .before .before .before .before .before .before .before .put-byte .ensures) (c .before .before .put-solved .ensures)
 

@@ -1,41 +1,30 @@
-use native.Mathlib.Omega.{arith}
+-- `text::put_atom_of` meets its contract. Nothing, or what stands between two atoms and the atom.
+use borrow.Author.Needs.{needs}
 use mathlib.Core.Path.{sym, _∙_}
+use native.Mathlib.Omega.{arith}
 use borrow.Author.Tests.{not-true, not-false}
 use Rattle.text.proofs.ListingLaws.{few-atoms, atom-out, atom-there}
-use borrow.Author.Needs.{needs}
 use Rattle.text.proofs.put_atom_of.Statement.{statement}
 use Rattle.text.proofs.put_atom_of.Tie as tie
-use Rattle.text.proofs.put_atom_of.Reads as reads
-use Rattle.text.proofs.put_atom_of.Lts as lts
-use Rattle.text.proofs.in_set.Reads as in-set-reads
-use Rattle.text.proofs.put_atom.Reads as put-atom-reads
-use Rattle.text.proofs.put_between.Reads as put-between-reads
 
--- src/lib.rt:188:9
 in-set-requires : tie.Need-in-set-requires
 in-set-requires c κs = omega (arith, few-atoms _ (c .before .before .pre .0))
 
--- src/lib.rt:189:9
 returns : tie.Need-returns
 returns c = atom-out _ _ _ _ (sym (c .before .in-set .ensures) ∙ not-true _ (c .if1 .taken))
 
--- src/lib.rt:191:34
 slice-aggregate-put-between : tie.Need-slice-aggregate-put-between
 slice-aggregate-put-between c = search needs
 
--- src/lib.rt:191:9
 put-between-requires : tie.Need-put-between-requires
 put-between-requires c κs = search needs
 
--- src/lib.rt:192:5
 put-atom-requires : tie.Need-put-atom-requires
 put-atom-requires c κs = search needs
 
--- src/lib.rt:184:1
 same-length : tie.Need-same-length
 same-length c = search needs
 
--- src/lib.rt:184:1
 returns-2 : tie.Need-returns-2
 returns-2 c = atom-there _ _ _ _ (sym (c .before .before .before .before .before .before .before .before .before .before .in-set .ensures) ∙ not-false _ (c .before .before .before .before .before .before .before .before .before .if1 .left)) (c .before .before .before .before .before .before .put-between .ensures) (c .before .before .put-atom .ensures)
 

@@ -1,18 +1,14 @@
-use Rattle.text.specs.Text.{bytesText}
+-- `text::put_bytes` meets its contract. The invariant: the first i bytes are written. The measure is how many are left.
+use borrow.Author.Needs.{needs}
+use Prim.Native.Nat.{_-_, _≤_}
+use native.Mathlib.Omega.{arith}
 use lib.ListN.{length, take}
-use Prim.Native.Nat.{ℕ, _-_, _≤_}
-use Rattle.text.proofs.Laws.{bytes-turn, bytes-start, all-of}
+use Rattle.text.specs.Text.{bytesText}
 use Rattle.text.specs.AppendLaws.{appended-length}
 use Rattle.text.specs.Append.{Appended}
-use native.Mathlib.Omega.{arith}
-use borrow.Author.Needs.{needs}
+use Rattle.text.proofs.Laws.{bytes-turn, bytes-start, all-of}
 use Rattle.text.proofs.put_bytes.Statement.{statement}
 use Rattle.text.proofs.put_bytes.Tie as tie
-use Rattle.text.proofs.put_bytes.Reads as reads
-use Rattle.text.proofs.put_bytes.Lts as lts
-use Rattle.text.proofs.byte_at.Reads as byte-at-reads
-use Rattle.text.proofs.digit_of.Reads as digit-of-reads
-use Rattle.text.proofs.put_byte.Reads as put-byte-reads
 
 abbrev Inv-loop : tie.InvT-loop
 Inv-loop bytes buffer₀ at end₀ i₀ buffer end i = (i ≤ length bytes) × Appended buffer₀ at (bytesText (take i bytes)) buffer end
@@ -20,47 +16,36 @@ Inv-loop bytes buffer₀ at end₀ i₀ buffer end i = (i ≤ length bytes) × A
 abbrev μ-loop : tie.MeasureT-loop
 μ-loop bytes buffer₀ at end₀ i₀ buffer end i = length bytes - i
 
--- src/lib.rt:104:5
 loop-holds : tie.Need-loop-holds Inv-loop μ-loop
 loop-holds c = (omega arith, bytes-start (c .before .before .args .bytes .now))
 
--- src/lib.rt:105:13
 byte-at-requires : tie.Need-byte-at-requires Inv-loop μ-loop
 byte-at-requires c κs = search needs
 
--- src/lib.rt:106:24
 digit-of-requires : tie.Need-digit-of-requires Inv-loop μ-loop
 digit-of-requires c κs = search needs
 
--- src/lib.rt:106:9
 put-byte-requires : tie.Need-put-byte-requires Inv-loop μ-loop
 put-byte-requires c κs = search needs
 
--- src/lib.rt:107:24
 digit-of-requires-2 : tie.Need-digit-of-requires-2 Inv-loop μ-loop
 digit-of-requires-2 c κs = search needs
 
--- src/lib.rt:107:9
 put-byte-requires-2 : tie.Need-put-byte-requires-2 Inv-loop μ-loop
 put-byte-requires-2 c κs = search needs
 
--- src/lib.rt:108:9
 add-i : tie.Need-add-i Inv-loop μ-loop
 add-i c = search needs
 
--- src/lib.rt:104:5
 loop-less : tie.Need-loop-less Inv-loop μ-loop
 loop-less c = search needs
 
--- src/lib.rt:104:5
 loop-again : tie.Need-loop-again Inv-loop μ-loop
 loop-again c = (omega arith, bytes-turn (c .before .before .before .before .before .before .before .before .before .before .before .before .before .before .before .args .bytes .now) (c .before .before .before .before .before .before .before .before .before .before .before .before .loop .i) (omega arith) (c .before .before .before .before .before .before .before .before .before .before .byte-at .ensures .0) (c .before .before .before .before .before .before .before .before .before .digit-of .ensures) (c .before .before .before .before .digit-of2 .ensures) (c .before .before .before .before .before .before .before .before .before .before .before .before .loop .inv .1) (c .before .before .before .before .before .before .before .put-byte .ensures) (c .before .before .put-byte2 .ensures))
 
--- src/lib.rt:99:1
 same-length : tie.Need-same-length Inv-loop μ-loop
 same-length c = appended-length (c .before .loop .inv .1)
 
--- src/lib.rt:99:1
 returns : tie.Need-returns Inv-loop μ-loop
 returns c = all-of bytesText (c .before .before .before .before .args .bytes .now) (c .before .loop .i) (omega arith) (c .before .loop .inv .1)
 

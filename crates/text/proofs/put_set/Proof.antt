@@ -1,19 +1,13 @@
+-- `text::put_set` meets its contract. The invariant: the atoms with a number below i are written, and `later` says whether there were any. The measure is how many are left.
+use borrow.Author.Needs.{needs}
 use mathlib.Core.Path.{_∙_}
+use Prim.Native.Nat.{_-_, _≤_}
 use native.Mathlib.Omega.{arith}
+use Rattle.table.specs.Reading.{tableOf}
 use Rattle.text.specs.AppendLaws.{appended-length}
 use Rattle.text.proofs.ListingLaws.{Below, header-in, few-atoms, atoms-left, below-none, below-turn, set-some, set-none}
-use Prim.Native.Nat.{ℕ, _-_, _≤_}
-use Rattle.table.specs.Reading.{tableOf}
-use borrow.Author.Needs.{needs}
 use Rattle.text.proofs.put_set.Statement.{statement}
 use Rattle.text.proofs.put_set.Tie as tie
-use Rattle.text.proofs.put_set.Reads as reads
-use Rattle.text.proofs.put_set.Lts as lts
-use Rattle.text.proofs.byte_at.Reads as byte-at-reads
-use Rattle.text.proofs.either.Reads as either-reads
-use Rattle.text.proofs.in_set.Reads as in-set-reads
-use Rattle.text.proofs.put_atom_of.Reads as put-atom-of-reads
-use Rattle.text.proofs.put_text.Reads as put-text-reads
 
 abbrev Inv-loop : tie.InvT-loop
 Inv-loop table set buffer₀ at atoms later₀ end₀ i₀ t9 buffer later end i = (i ≤ atoms) × Below (tableOf table) set buffer₀ at i later buffer end
@@ -21,67 +15,51 @@ Inv-loop table set buffer₀ at atoms later₀ end₀ i₀ t9 buffer later end i
 abbrev μ-loop : tie.MeasureT-loop
 μ-loop table set buffer₀ at atoms later₀ end₀ i₀ t9 buffer later end i = atoms - i
 
--- src/lib.rt:200:17
 byte-at-requires : tie.Need-byte-at-requires Inv-loop μ-loop
 byte-at-requires c κs = omega (arith, header-in _ (c .before .before .pre))
 
--- src/lib.rt:200:52
 byte-at-requires-2 : tie.Need-byte-at-requires-2 Inv-loop μ-loop
 byte-at-requires-2 c κs = omega (arith, header-in _ (c .before .before .before .pre))
 
--- src/lib.rt:200:17
 add-atoms : tie.Need-add-atoms Inv-loop μ-loop
 add-atoms c = omega arith
 
--- src/lib.rt:204:5
 loop-holds : tie.Need-loop-holds Inv-loop μ-loop
 loop-holds c = (omega arith, below-none _ _ _ _)
 
--- src/lib.rt:205:9
 put-atom-of-requires : tie.Need-put-atom-of-requires Inv-loop μ-loop
 put-atom-of-requires c κs = (c .before .before .before .before .before .before .before .pre, omega (arith, c .before .before .before .before .byte-at .ensures .0, c .before .before .before .byte-at2 .ensures .0))
 
--- src/lib.rt:206:31
 in-set-requires : tie.Need-in-set-requires Inv-loop μ-loop
 in-set-requires c κs = omega (arith, few-atoms _ (c .before .before .before .before .before .before .before .before .before .before .pre), c .before .before .before .before .before .before .before .byte-at .ensures .0, c .before .before .before .before .before .before .byte-at2 .ensures .0)
 
--- src/lib.rt:206:9
 either-requires : tie.Need-either-requires Inv-loop μ-loop
 either-requires c κs = search needs
 
--- src/lib.rt:207:9
 add-i : tie.Need-add-i Inv-loop μ-loop
 add-i c = search needs
 
--- src/lib.rt:204:5
 loop-less : tie.Need-loop-less Inv-loop μ-loop
 loop-less c = search needs
 
--- src/lib.rt:204:5
 loop-again : tie.Need-loop-again Inv-loop μ-loop
 loop-again c = (omega arith, below-turn _ _ (c .before .before .before .before .before .before .before .loop .inv .1) (c .before .before .before .before .put-atom-of .ensures) (c .before .in-set .ensures) (c .either .ensures))
 
--- src/lib.rt:210:9
 same-length : tie.Need-same-length Inv-loop μ-loop
 same-length c = appended-length (c .before .before .loop .inv .1 .written)
 
--- src/lib.rt:210:9
 returns : tie.Need-returns Inv-loop μ-loop
 returns c = set-some _ _ (atoms-left _ (c .before .before .before .before .before .before .before .pre) _ _ _ (c .before .before .before .before .byte-at .ensures .0) (c .before .before .before .byte-at2 .ensures .0) (c .before .before .loop .inv .0) (c .before .loop-test .left)) (c .if1 .taken) (c .before .before .loop .inv .1)
 
--- src/lib.rt:212:14
 slice-aggregate-put-text : tie.Need-slice-aggregate-put-text Inv-loop μ-loop
 slice-aggregate-put-text c = search needs
 
--- src/lib.rt:212:5
 put-text-requires : tie.Need-put-text-requires Inv-loop μ-loop
 put-text-requires c κs = search needs
 
--- src/lib.rt:196:1
 same-length-2 : tie.Need-same-length-2 Inv-loop μ-loop
 same-length-2 c = appended-length (c .before .before .put-text .ensures) ∙ appended-length (c .before .before .before .before .before .before .before .loop .inv .1 .written)
 
--- src/lib.rt:196:1
 returns-2 : tie.Need-returns-2 Inv-loop μ-loop
 returns-2 c = set-none _ _ (atoms-left _ (c .before .before .before .before .before .before .before .before .before .before .before .before .pre) _ _ _ (c .before .before .before .before .before .before .before .before .before .byte-at .ensures .0) (c .before .before .before .before .before .before .before .before .byte-at2 .ensures .0) (c .before .before .before .before .before .before .before .loop .inv .0) (c .before .before .before .before .before .before .loop-test .left)) (c .before .before .before .before .before .if1 .left) (c .before .before .before .before .before .before .before .loop .inv .1) (c .before .before .put-text .ensures)
 

@@ -1,16 +1,14 @@
+-- `text::put_text` meets its contract. The invariant: the first i bytes are written. The measure is how many are left.
+use borrow.Author.Needs.{needs}
 use mathlib.Core.List.{List}
-use lib.ListN.{length, take}
 use Prim.Native.Nat.{ℕ, _-_, _≤_}
-use Rattle.text.proofs.Laws.{text-turn, all-of}
+use native.Mathlib.Omega.{arith}
+use lib.ListN.{length, take}
 use Rattle.text.specs.AppendLaws.{appended-none, appended-length}
 use Rattle.text.specs.Append.{Appended}
-use native.Mathlib.Omega.{arith}
-use borrow.Author.Needs.{needs}
+use Rattle.text.proofs.Laws.{text-turn, all-of}
 use Rattle.text.proofs.put_text.Statement.{statement}
 use Rattle.text.proofs.put_text.Tie as tie
-use Rattle.text.proofs.put_text.Reads as reads
-use Rattle.text.proofs.put_text.Lts as lts
-use Rattle.text.proofs.put_byte.Reads as put-byte-reads
 
 abbrev Inv-loop : tie.InvT-loop
 Inv-loop text buffer₀ at end₀ i₀ buffer end i = (i ≤ length text) × Appended buffer₀ at (take i text) buffer end
@@ -18,35 +16,27 @@ Inv-loop text buffer₀ at end₀ i₀ buffer end i = (i ≤ length text) × App
 abbrev μ-loop : tie.MeasureT-loop
 μ-loop text buffer₀ at end₀ i₀ buffer end i = length text - i
 
--- src/lib.rt:37:5
 loop-holds : tie.Need-loop-holds Inv-loop μ-loop
 loop-holds c = (omega arith, appended-none _ _)
 
--- src/lib.rt:38:24
 shared-slice-read-put-byte : tie.Need-shared-slice-read-put-byte Inv-loop μ-loop
 shared-slice-read-put-byte c = search needs
 
--- src/lib.rt:38:9
 put-byte-requires : tie.Need-put-byte-requires Inv-loop μ-loop
 put-byte-requires c κs = search needs
 
--- src/lib.rt:39:9
 add-i : tie.Need-add-i Inv-loop μ-loop
 add-i c = search needs
 
--- src/lib.rt:37:5
 loop-less : tie.Need-loop-less Inv-loop μ-loop
 loop-less c = search needs
 
--- src/lib.rt:37:5
 loop-again : tie.Need-loop-again Inv-loop μ-loop
 loop-again c = (omega arith, text-turn (c .before .before .before .before .before .before .before .before .before .args .text .now) (c .before .before .before .before .before .before .loop .i) (omega arith) (c .before .before .before .before .before .before .loop .inv .1) (c .before .before .put-byte .ensures))
 
--- src/lib.rt:32:1
 same-length : tie.Need-same-length Inv-loop μ-loop
 same-length c = appended-length (c .before .loop .inv .1)
 
--- src/lib.rt:32:1
 returns : tie.Need-returns Inv-loop μ-loop
 returns c = all-of (λ (l : List ℕ). l) (c .before .before .before .before .args .text .now) (c .before .loop .i) (omega arith) (c .before .loop .inv .1)
 

@@ -1,17 +1,15 @@
-use native.Mathlib.Omega.{arith}
+-- `text::put_variables` meets its contract. The invariant: the lines of the first x variables are written. The measure is how many are left.
+use borrow.Author.Needs.{needs}
 use mathlib.Core.Path.{_≡_, ap}
+use Prim.Native.Nat.{_-_, _≤_}
+use native.Mathlib.Omega.{arith}
+use Rattle.table.specs.Reading.{tableOf}
 use Rattle.text.specs.Append.{Appended}
 use Rattle.text.specs.AppendLaws.{appended-as, appended-length}
-use Rattle.text.proofs.ListingLaws.{lines-none, lines-turn}
-use Prim.Native.Nat.{ℕ, _-_, _≤_}
-use Rattle.table.specs.Reading.{tableOf}
 use Rattle.text.specs.Listing.{variableLines}
-use borrow.Author.Needs.{needs}
+use Rattle.text.proofs.ListingLaws.{lines-none, lines-turn}
 use Rattle.text.proofs.put_variables.Statement.{statement}
 use Rattle.text.proofs.put_variables.Tie as tie
-use Rattle.text.proofs.put_variables.Reads as reads
-use Rattle.text.proofs.put_variables.Lts as lts
-use Rattle.text.proofs.put_variable.Reads as put-variable-reads
 
 abbrev Inv-loop : tie.InvT-loop
 Inv-loop table n output buffer₀ at end₀ x₀ buffer end x = (x ≤ n) × Appended buffer₀ at (variableLines (tableOf table) output x) buffer end
@@ -19,31 +17,24 @@ Inv-loop table n output buffer₀ at end₀ x₀ buffer end x = (x ≤ n) × App
 abbrev μ-loop : tie.MeasureT-loop
 μ-loop table n output buffer₀ at end₀ x₀ buffer end x = n - x
 
--- src/lib.rt:242:5
 loop-holds : tie.Need-loop-holds Inv-loop μ-loop
 loop-holds c = (omega arith, lines-none _ _ _ _)
 
--- src/lib.rt:243:9
 put-variable-requires : tie.Need-put-variable-requires Inv-loop μ-loop
 put-variable-requires c κs = (c .before .before .before .before .before .before .pre .0, omega (arith, c .before .before .before .before .before .before .pre .1))
 
--- src/lib.rt:244:9
 add-x : tie.Need-add-x Inv-loop μ-loop
 add-x c = search needs
 
--- src/lib.rt:242:5
 loop-less : tie.Need-loop-less Inv-loop μ-loop
 loop-less c = search needs
 
--- src/lib.rt:242:5
 loop-again : tie.Need-loop-again Inv-loop μ-loop
 loop-again c = (omega arith, lines-turn _ _ _ (c .before .before .before .before .before .loop .inv .1) (c .before .before .put-variable .ensures))
 
--- src/lib.rt:236:1
 same-length : tie.Need-same-length Inv-loop μ-loop
 same-length c = appended-length (c .before .loop .inv .1)
 
--- src/lib.rt:236:1
 returns : tie.Need-returns Inv-loop μ-loop
 returns c = appended-as (c .before .loop .inv .1) (ap (variableLines _ _) (let z : c .before .loop .x ≡ c .before .before .before .before .before .args .n = omega arith in z))
 

@@ -8,26 +8,33 @@
 --   Levels t p m level      == the level is that of the children of the node p
 --   failsAt s set n         == line n does not hold under the sets
 --   freshFails s set fresh few == one of the lines listed does not
---   FreshGiven s start c e v level sets == what its test asks
+--   FreshGiven s start c e v fresh few set == what its test asks
+--   ChildGiven ..           == a child of a live node, and the level that it is tested by
+--   deadSibling t sets x    == the node with the set x in place of its newest one is dead
+--   Passes t sets i         == the i siblings from the node on are dead
+--   Sweeps t sets last most swept == what a sweep over siblings says
 use mathlib.Core.Path.{_≡_}
 use mathlib.Core.Bool.{Bool, true, false, _&&_, _||_, not}
 use mathlib.Core.List.{List, [], _∷_, _++_}
-use Prim.Native.Nat.{ℕ, zero, suc, _+_, _-_, _≤_, _<_}
+use Prim.Native.Nat.{ℕ, zero, suc, _+_, _-_, _^_, _≤_, _<_}
 use lib.Dec.{T, eqb}
-use lib.ListN.{length, getD, take}
+use lib.ListN.{length, getD, take, set}
 use lib.Bits.{bitAnd}
 use Rattle.el.specs.Test.{anyBelow, bit}
 use Rattle.el.specs.Description.{sameRole}
 use Rattle.el.specs.Table.{Table}
 use Rattle.el.specs.Meaning.{holds}
 use Rattle.el.specs.Assignment.{acyclic, induced}
-use Rattle.el.specs.Walk.{Node}
+use Rattle.el.specs.Walk.{Node, dead}
 use Rattle.el.specs.ChildLaws.{freshly}
 use Rattle.table.specs.Reading.{byteAt, reading, isReadable, tableOf}
 use Rattle.table.specs.Layout.{lineAt}
 use Rattle.node.specs.declared.Sets.{Sets}
-use Rattle.node.specs.Node.{nodeOf, Clean, Shows, LineStarts, rowOf}
+use Rattle.node.specs.Node.{Shows, FillMasks, LineStarts, NodeGiven, rowOf}
 use Rattle.level.specs.declared.Level.{Level}
+use Rattle.level.specs.declared.End.{End}
+use Rattle.level.specs.declared.End.the-variants.{Live, Over, Spent}
+use Rattle.level.specs.declared.Swept.{Swept}
 
 unfoldable pub newBy : List ℕ → ℕ → ℕ → ℕ → Bool
 newBy rows d n w = bit w d || anyBelow n (λ u. bit u d && bit w (rowOf rows u))
@@ -56,13 +63,65 @@ failsAt s set n = not (holds sameRole (tableOf s .rows) (induced (tableOf s) set
 unfoldable pub freshFails : List ℕ → List ℕ → List ℕ → ℕ → Bool
 freshFails s set fresh few = anyBelow few (λ i. failsAt s set (getD fresh i 0))
 
-pub record FreshGiven (s start : List ℕ) (c e v : ℕ) (level : Level) (sets : Sets) : Type 0 where
+pub record FreshGiven (s start : List ℕ) (c e v : ℕ) (fresh : List ℕ) (few : ℕ) (set : List ℕ) : Type 0 where
   pub readable : T (isReadable (reading s))
   pub constants : c ≡ byteAt s 5
   pub restrictions : e ≡ byteAt s 8
   pub variables : v ≡ byteAt s 7
   pub starts : LineStarts s (byteAt s 9) start
   pub room : length start ≡ 64
-  pub straight : T (acyclic (tableOf s) (sets .set))
-  pub few-fit : level .few ≤ length (level .fresh)
-  pub in-table : (i : ℕ) → i < level .few → getD (level .fresh) i 0 < byteAt s 9
+  pub sets : length set ≡ 12
+  pub straight : T (acyclic (tableOf s) set)
+  pub few-fit : few ≤ length fresh
+  pub in-table : (i : ℕ) → i < few → getD fresh i 0 < byteAt s 9
+
+-- the first k sets of a list, as the code holds a node
+abbrev pub setsOf : List ℕ → ℕ → Sets
+setsOf set k = record { set = set; chosen = k }
+
+abbrev pub levelOf : List ℕ → List ℕ → ℕ → Level
+levelOf row fresh few = record { row = row; fresh = fresh; few = few }
+
+-- a child of a live node, and the level that it is tested by
+pub record ChildGiven (s fill start row fresh : List ℕ) (few c e v m k : ℕ) (set : List ℕ) : Type 0 where
+  pub node : NodeGiven s c e v m (setsOf set k)
+  pub fills : FillMasks (tableOf s .rows) (byteAt s 8) fill
+  pub fill-room : length fill ≡ 24
+  pub starts : LineStarts s (byteAt s 9) start
+  pub start-room : length start ≡ 64
+  pub row-room : length row ≡ 12
+  pub room : length set ≡ 12
+  pub some : 0 < k
+  pub level : Levels (tableOf s) (take (k - 1) set) m (levelOf row fresh few)
+  pub live : dead sameRole (tableOf s) (take (k - 1) set) ≡ false
+
+pub record SweepGiven (s fill start : List ℕ) (level : Level) (c e v m : ℕ) (sets : Sets) (last : ℕ) : Type 0 where
+  pub child : length (level .row) ≡ 12 → length (sets .set) ≡ 12 → ChildGiven s fill start (level .row) (level .fresh) (level .few) c e v m (sets .chosen) (sets .set)
+  pub first : getD (sets .set) (sets .chosen - 1) 0 ≤ last
+  pub narrow : last < 2 ^ 24
+
+-- the node with the set x in place of its own newest set
+abbrev pub siblingOf : Sets → ℕ → List ℕ
+siblingOf sets x = set (sets .set) (sets .chosen - 1) x
+
+abbrev pub ownOf : Sets → ℕ
+ownOf sets = getD (sets .set) (sets .chosen - 1) 0
+
+unfoldable pub deadSibling : Table → Sets → ℕ → Bool
+deadSibling t sets x = dead sameRole t (take (sets .chosen) (siblingOf sets x))
+
+-- the i siblings from the node on are dead
+unfoldable pub Passes : Table → Sets → ℕ → Type 0
+Passes t sets i = (j : ℕ) → j < i → deadSibling t sets (ownOf sets + j) ≡ true
+
+abbrev pub SweepsAs : Table → Sets → ℕ → ℕ → End → ℕ → ℕ → Type 0
+SweepsAs t sets last most Live passed at =
+    (i : ℕ) × (passed ≡ i + 1) × (at ≡ ownOf sets + i) × Passes t sets i × (deadSibling t sets at ≡ false)
+SweepsAs t sets last most Over passed at =
+    (i : ℕ) × (passed ≡ i + 1) × (at ≡ ownOf sets + i) × Passes t sets i × (deadSibling t sets at ≡ true) × (last ≤ at)
+SweepsAs t sets last most Spent passed at = (passed ≡ most) × (at ≡ ownOf sets + passed) × Passes t sets passed
+
+pub record Sweeps (t : Table) (sets : Sets) (last most : ℕ) (swept : Swept) : Type 0 where
+  pub few : swept .passed ≤ most
+  pub within : swept .at ≤ last
+  pub ends : SweepsAs t sets last most (swept .end) (swept .passed) (swept .at)

@@ -8,6 +8,7 @@
 --   lines-start, lines-fail, lines-next, lines-whole, fresh-in, fresh-line == the loop over the lines listed
 --   node-child, parent-shows == the node above the node of the sets
 --   level-whole, level-made == the level that is made so
+--   new-empty, direct-none == a set without restrictions leads nowhere
 --   below-given, dead-cycle, dead-open, dead-fresh == the test of a child by its level
 use mathlib.Core.Path.{_≡_, refl, sym, ap, ap₂, subst, _∙_}
 use mathlib.Core.Bool.{Bool, true, false, _&&_, _||_, not}
@@ -79,8 +80,20 @@ module _ (rows : List ℕ) (d : ℕ) where
       ∙ ap (λ (b : Bool). anyBelow n (λ u. bit u d && bit y (rowOf rows u)) || b) (sym (ap (λ (b : Bool). b && bit y (rowOf rows n)) e))
       ∙ sym (anyBelow-next n (λ u. bit u d && bit y (rowOf rows u))))
 
+  pub new-empty : (n : ℕ) → d ≡ 0 → Masks (newBy rows d n) 0
+  unfolding newBy
+  new-empty n e y =
+      bit-none y ∙ sym (ap (λ (x : ℕ). bit y x || anyBelow n (λ u. bit u x && bit y (rowOf rows u))) e
+      ∙ ap₂ _||_ (bit-none y) (anyBelow-none n (λ u. bit u 0 && bit y (rowOf rows u)) (λ u h. ap (λ (b : Bool). b && bit y (rowOf rows u)) (bit-none u))))
+
   pub new-whole : (n z m : ℕ) → z ≤ n → n ≤ z → Masks (newBy rows d z) m → Masks (newBy rows d n) m
   new-whole n z m h k is = let e : z ≡ n = omega arith in subst (λ (i : ℕ). Masks (newBy rows d i) m) e is
+
+-- a set number without a bit from c on has no restriction
+pub direct-none : (fill : List ℕ) (c e x : ℕ) → x / 2 ^ c ≡ 0 → Masks (dependsBy fill c x e) 0
+unfolding dependsBy
+direct-none fill c e x h y =
+    bit-none y ∙ sym (anyBelow-none e (λ i. bit (c + i) x && bit y (getD fill i 0)) (λ i l. ap (λ (b : Bool). b && bit y (getD fill i 0)) (high-none x c (c + i) h (omega arith))))
 
 ----------------------------------------------------------------------------------------------------
 -- The numbers that pass a test
@@ -327,21 +340,21 @@ module _ (s set fresh : List ℕ) (i n : ℕ) (this : n ≡ getD fresh i 0) (b :
 pub lines-whole : (s set fresh : List ℕ) (few i : ℕ) → i ≤ few → few ≤ i → freshFails s set fresh i ≡ false → false ≡ freshFails s set fresh few
 lines-whole s set fresh few i h k e = let q : few ≡ i = omega arith in sym (ap (freshFails s set fresh) q ∙ e)
 
-module _ (s start : List ℕ) (c e v : ℕ) (level : Level) (sets : Sets) (given : FreshGiven s start c e v level sets) where
-  pub fresh-in : (i n : ℕ) → i < level .few → n ≡ getD (level .fresh) i 0 → n < length start
+module _ (s start : List ℕ) (c e v : ℕ) (fresh : List ℕ) (few : ℕ) (sets : List ℕ) (given : FreshGiven s start c e v fresh few sets) where
+  pub fresh-in : (i n : ℕ) → i < few → n ≡ getD fresh i 0 → n < length start
   fresh-in i n h q =
-      let k : getD (level .fresh) i 0 < byteAt s 9 = given .in-table i h in let f : byteAt s 9 ≤ 64 = layout s (given .readable) .few-lines in
+      let k : getD fresh i 0 < byteAt s 9 = given .in-table i h in let f : byteAt s 9 ≤ 64 = layout s (given .readable) .few-lines in
       let r : length start ≡ 64 = given .room in omega arith
 
-  pub fresh-line : (i n : ℕ) → i < level .few → n ≡ getD (level .fresh) i 0 → length (sets .set) ≡ 12 → LineGiven s (sets .set) c e v n (getD start n 0)
-  fresh-line i n h q room =
-      let k : n < byteAt s 9 = (let z : getD (level .fresh) i 0 < byteAt s 9 = given .in-table i h in omega arith) in
+  pub fresh-line : (i n : ℕ) → i < few → n ≡ getD fresh i 0 → LineGiven s sets c e v n (getD start n 0)
+  fresh-line i n h q =
+      let k : n < byteAt s 9 = (let z : getD fresh i 0 < byteAt s 9 = given .in-table i h in omega arith) in
       record {
         readable = given .readable;
         constants = given .constants;
         restrictions = given .restrictions;
         variables = given .variables;
-        sets = room;
+        sets = given .sets;
         acyclic = given .straight;
         line = k;
         begins = (unfold LineStarts in given .starts n k);
@@ -389,18 +402,18 @@ module _ (s : List ℕ) (c e v m : ℕ) (sets : Sets) (given : NodeGiven s c e v
   pub parent-node : take (sets .chosen - 1) (set (sets .set) (sets .chosen - 1) 0) ≡ parent
   parent-node = take-set-le (sets .chosen - 1) (sets .set) (sets .chosen - 1) 0 (omega arith)
 
-  fills-of : (fill mask start : List ℕ) → Prepares s fill mask start → Fills (tableOf s) c e fill
-  fills-of fill mask start ready =
+  fills-of : (fill : List ℕ) → FillMasks (tableOf s .rows) (byteAt s 8) fill → Fills (tableOf s) c e fill
+  fills-of fill masks =
       record {
         constants = given .constants ∙ sym (node-layout s c e v m sets given .constants);
         restrictions = given .restrictions ∙ sym (node-layout s c e v m sets given .rows);
-        masks = subst (λ (k : ℕ). FillMasks (tableOf s .rows) k fill) (sym (given .restrictions)) (ready .fills);
+        masks = subst (λ (k : ℕ). FillMasks (tableOf s .rows) k fill) (sym (given .restrictions)) (masks);
       }
 
   module _ (fill mask start : List ℕ) (ready : Prepares s fill mask start) where
     pub parent-shows : (rows : List ℕ) (above : Sets) → above .set ≡ set (sets .set) (sets .chosen - 1) 0 → above .chosen ≡ sets .chosen - 1 → Squares fill c e above rows → Shows (tableOf s) parent rows
     parent-shows rows above e k square =
-        subst (λ (p : Node). Shows (tableOf s) p rows) same (unfold Squares in square (tableOf s) (fills-of fill mask start ready) (let h = parent-few in let n = parent-length in omega arith))
+        subst (λ (p : Node). Shows (tableOf s) p rows) same (unfold Squares in square (tableOf s) (fills-of fill (ready .fills)) (let h = parent-few in let n = parent-length in omega arith))
       where
         same : nodeOf above ≡ parent
         same = unfold nodeOf in (ap₂ (λ (i : ℕ) (l : List ℕ). take i l) k e ∙ parent-node)
@@ -450,14 +463,12 @@ module _ (s : List ℕ) (c e v m : ℕ) (sets : Sets) (given : NodeGiven s c e v
     pub few-lines : (m ≤ 64) × (length mask ≡ 64)
     few-lines = let f : byteAt s 9 ≤ 64 = node-layout s c e v m sets given .few-lines in let q : m ≡ byteAt s 9 = given .lines in (omega arith, ready .mask-room)
 
-    -- THE TEST OF A CHILD
-    module _ (level : Level) (is : Levels (tableOf s) parent m level) (live : LiveAbove (tableOf s) (nodeOf sets)) (d leads : ℕ)
+  -- THE TEST OF A CHILD
+  module _ (fill start : List ℕ) (masks : FillMasks (tableOf s .rows) (byteAt s 8) fill) (starts : LineStarts s (byteAt s 9) start) (start-room : length start ≡ 64) where
+    module _ (level : Level) (is : Levels (tableOf s) parent m level) (parent-live : dead sameRole (tableOf s) parent ≡ false) (d leads : ℕ)
         (direct : Masks (dependsBy fill c own e) d) (follows : Masks (newBy (level .row) d (sets .chosen - 1)) leads) where
       known-table : T (declared (tableOf s))
       known-table = node-layout s c e v m sets given .all-declared
-
-      parent-live : dead sameRole (tableOf s) parent ≡ false
-      parent-live = (unfold LiveAbove in live parent own node-child)
 
       own-set : setOf (childOf parent own) (length parent) ≡ own
       unfolding setOf
@@ -466,7 +477,7 @@ module _ (s : List ℕ) (c e v m : ℕ) (sets : Sets) (given : NodeGiven s c e v
       direct-says : (w : ℕ) → bit w d ≡ depends (tableOf s) (childOf parent own) (length parent) w
       direct-says w =
           direct w ∙ ap (λ (x : ℕ). dependsBy fill c x e w) (sym own-set)
-          ∙ depends-filled (tableOf s) c e fill (fills-of fill mask start ready) (childOf parent own) (length parent) w
+          ∙ depends-filled (tableOf s) c e fill (fills-of fill masks) (childOf parent own) (length parent) w
 
       row-says : (u w : ℕ) → bit w (rowOf (level .row) u) ≡ reaches (tableOf s) parent u w
       row-says u w = (unfold Shows in is .rows u w)
@@ -540,15 +551,16 @@ module _ (s : List ℕ) (c e v m : ℕ) (sets : Sets) (given : NodeGiven s c e v
           same-sets x = set-node sets (given .clean) x
 
           -- what its lines' test asks
-          pub below-given : FreshGiven s start c e v level sets
+          pub below-given : FreshGiven s start c e v (level .fresh) (level .few) (sets .set)
           below-given =
               record {
                 readable = given .readable;
                 constants = given .constants;
                 restrictions = given .restrictions;
                 variables = given .variables;
-                starts = ready .starts;
-                room = ready .start-room;
+                starts = starts;
+                room = start-room;
+                sets = room;
                 straight = subst T (ap (acyclic (tableOf s)) (sym node-child) ∙ acyclic-same (tableOf s) (nodeOf sets) (sets .set) same-sets) (true-is (acyclic (tableOf s) (childOf parent own)) straight);
                 few-fit = is .lines .few-fit;
                 in-table = λ i h. inside i h;

@@ -1,2 +1,3 @@
 pub mod Level
 pub mod LevelLaws
+pub mod SweepLaws

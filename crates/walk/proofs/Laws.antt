@@ -5,27 +5,25 @@
 --   next-sibling        == where it ends at a sibling
 --   next-none           == where no node is left
 --   looked-dead, looked-solved, looked-down == what examining a node finds
---   sound-above     == a sound node has a live parent
---   kin-sibling, shared-sibling, shared-root == the level along the walk
+--   kin-sibling     == a node on the way
 --   given-variables, given-node == what the table's counts give
 --   turn-solved, turn-on, turn-over == a node of the list, gone along
 --   walked-start, walked-found, walked-over, walked-on, walked-spent == a turn of the walk's loop
 use mathlib.Core.Path.{_≡_, refl, sym, ap, ap₂, subst, _∙_}
 use mathlib.Core.Bool.{Bool, true, false, _&&_, not}
 use mathlib.Core.List.{List, [], _∷_}
-use Prim.Native.Nat.{ℕ, zero, suc, _+_, _-_, _*_, _%_, _^_, _≤_, _<_, min}
-use native.Mathlib.Nat.{one-mul, mod-eq-of-lt, sub-zero}
+use Prim.Native.Nat.{ℕ, zero, suc, _+_, _-_, _*_, _%_, _^_, _≤_, _<_}
+use native.Mathlib.Nat.{one-mul, mod-eq-of-lt, sub-zero, add-zero}
 use native.Mathlib.Omega.{arith}
 use native.Mathlib.Decide.{ℕ-discrete}
-use lib.ListN.{length, getD, take, set, replicate}
-use lib.Seq.{getD-set-same, getD-set-other, take-set-le}
+use lib.ListN.{length, getD, take, set, replicate, length-set}
+use lib.Seq.{getD-set-same, getD-set-other, take-set-le, set-getD, set-set}
 use Rattle.el.specs.Description.{sameRole}
 use Rattle.el.specs.Table.{Table, atoms}
 use lib.Dec.{T, eqb}
 use lib.Pow.{pow-lt, pow-mono}
 use borrow.Author.Tests.{eq-eqb, ne-eqb}
-use lib.ListN.{length-append, length-take}
-use lib.Seq.{length-take-le, take-append-seam, take-take}
+use lib.Seq.{length-take-le}
 use Rattle.el.specs.Walk.{Node, dead, full, ends, Outcome, solved, nothing, budget, outcome, nodes}
 use Rattle.el.specs.ScanLaws.{scan, scan-end, scan-spent, scan-solved, scan-on, scan-means}
 use Rattle.el.specs.StepLaws.{remaining, afterwards, remaining-start, remaining-dead, remaining-full, remaining-down, remaining-first, afterwards-hit, afterwards-miss, afterwards-end}
@@ -33,26 +31,30 @@ use Rattle.node.specs.declared.Sets.{Sets}
 use Rattle.table.specs.Reading.{byteAt, reading, isReadable, tableOf}
 use Rattle.table.specs.Layout.{Layout}
 use Rattle.table.specs.LayoutLaws.{layout}
-use Rattle.node.specs.Node.{nodeOf, Clean, NodeGiven, LiveAbove}
+use Rattle.node.specs.Node.{nodeOf, Clean, NodeGiven, Prepares}
 use Rattle.level.specs.declared.Level.{Level}
-use Rattle.level.specs.Level.{Levels}
+use Rattle.level.specs.declared.Swept.{Swept}
+use Rattle.level.specs.declared.End as level-end
+use Rattle.level.specs.declared.End.the-variants as level-ends
+use Rattle.level.specs.Level.{Levels, setsOf, siblingOf, ownOf, deadSibling, Passes, SweepsAs, Sweeps, SweepGiven}
 use Rattle.walk.specs.declared.Going.{Going}
 use Rattle.walk.specs.declared.Going.the-variants.{Solved, On, Over}
-use Rattle.walk.specs.Step.{SoundAt, Kin, Shared, rest, after, NextAs, LookedAs, Given}
+use Rattle.walk.specs.declared.Step.{Step}
+use Rattle.walk.specs.declared.Gone.{Gone}
+use Rattle.walk.specs.Step.{SoundAt, Kin, rest, after, deadAt, NextAs, LookedAs, Looked, AdvancesAs, Advances, Given}
 
 unfoldable pub Goes : Table → List ℕ → ℕ → List ℕ → ℕ → Type 0
 Goes t a₀ k₀ a k = (afterwards sameRole t a₀ k₀ ≡ afterwards sameRole t a k) × (SoundAt t a₀ k₀ → SoundAt t a k)
 
--- at the first node nothing has changed
-pub kin-sibling : (a₀ a : List ℕ) (k₀ k y : ℕ) → 0 < k → (k ≡ k₀ → a ≡ a₀)
-    → Kin (record { set = a₀; chosen = k₀ }) (record { set = set a (k - 1) y; chosen = k })
+pub kin-sibling : (t : Table) (a : List ℕ) (k y : ℕ) → 0 < k → k ≤ length a → y < 2 ^ atoms t → Kin t (setsOf (set a (k - 1) y) k)
 unfolding Kin
-kin-sibling a₀ a k₀ k y h f = (h, λ e. take-set-le (k - 1) a (k - 1) y (omega arith) ∙ ap₂ (λ (i : ℕ) (l : List ℕ). take (i - 1) l) e (f e))
+kin-sibling t a k y h l w = (h, subst (λ (x : ℕ). x < 2 ^ atoms t) (sym (getD-set-same a (k - 1) y 0 (omega arith))) w)
 
 -- a child lies deeper
-kin-child : (sets to : Sets) → to .chosen ≡ sets .chosen + 1 → Kin sets to
+kin-child : (t : Table) (sets to : Sets) → sets .chosen < length (sets .set) → 0 < 2 ^ atoms t → to .set ≡ set (sets .set) (sets .chosen) 0 → to .chosen ≡ sets .chosen + 1 → Kin t to
 unfolding Kin
-kin-child sets to e = (omega arith, λ q. absurd (let z : ⊥ = omega arith in z))
+kin-child t sets to h w p q =
+    (omega arith, subst (λ (x : ℕ). x < 2 ^ atoms t) (sym (ap₂ (λ (l : List ℕ) (i : ℕ). getD l i 0) p (let z : to .chosen - 1 ≡ sets .chosen = omega arith in z) ∙ getD-set-same (sets .set) (sets .chosen) 0 0 h)) w)
 
 pub goes-start : (t : Table) (a : List ℕ) (k : ℕ) → Goes t a k a k
 unfolding Goes
@@ -76,7 +78,7 @@ module _ (t : Table) (last : ℕ) (width : 2 ^ atoms t ≡ last + 1) (a : List �
   unfolding SoundAt
   up-sound s = (let h : k ≤ t .variables = s .0 in omega arith, up-clean (s .1), λ j h. above-set 0 (s .2) j (omega arith))
 
-  next-sound : (y : ℕ) → SoundAt t a k → SoundAt t (set a (k - 1) y) k
+  pub next-sound : (y : ℕ) → SoundAt t a k → SoundAt t (set a (k - 1) y) k
   unfolding SoundAt
   next-sound y s = (s .0, clean-set y (s .1), above-set y (s .2))
 
@@ -88,9 +90,13 @@ module _ (t : Table) (last : ℕ) (width : 2 ^ atoms t ≡ last + 1) (a : List �
   pub next-sibling : (a₀ : List ℕ) (k₀ : ℕ) → getD a (k - 1) 0 < last → Goes t a₀ k₀ a k
       → (afterwards sameRole t a₀ k₀ ≡ remaining sameRole t (set a (k - 1) (getD a (k - 1) 0 + 1)) k)
       × (SoundAt t a₀ k₀ → SoundAt t (set a (k - 1) (getD a (k - 1) 0 + 1)) k)
+      × Kin t (setsOf (set a (k - 1) (getD a (k - 1) 0 + 1)) k)
   unfolding Goes
-  next-sibling a₀ k₀ h g =
-      (g .0 ∙ afterwards-hit sameRole t a k some fits (omega arith), λ s. next-sound (getD a (k - 1) 0 + 1) (g .1 s))
+  next-sibling a₀ k₀ h g = (
+    g .0 ∙ afterwards-hit sameRole t a k some fits (omega arith),
+    (λ s. next-sound (getD a (k - 1) 0 + 1) (g .1 s)),
+    kin-sibling t a k (getD a (k - 1) 0 + 1) some fits (omega arith),
+  )
 
 pub next-none : (t : Table) (a₀ : List ℕ) (k₀ : ℕ) (a : List ℕ) (k : ℕ) → k ≡ 0 → Goes t a₀ k₀ a k → afterwards sameRole t a₀ k₀ ≡ []
 unfolding Goes
@@ -135,7 +141,7 @@ module _ (t : Table) (sets : Sets) (fits : sets .chosen ≤ length (sets .set)) 
     ends-part t (nodeOf sets) e (λ z. let y : sets .chosen ≡ t .variables = sym node-length ∙ z in omega arith),
     (unfold rest nodeOf in (remaining-down sameRole t (sets .set) (sets .chosen) h l w e ∙ ap₂ (λ (a : List ℕ) (k : ℕ). take (sets .chosen) (sets .set) ∷ remaining sameRole t a k) (sym p) (sym q))),
     subst (λ (a : List ℕ). SoundAt t a (to .chosen)) (sym p) (subst (SoundAt t (set (sets .set) (sets .chosen) 0)) (sym q) down-sound),
-    kin-child sets to q,
+    kin-child t sets to h w p q,
   )
     where
       unclean : (x : ℕ) → sets .chosen ≤ x → getD (sets .set) x 0 ≡ 0
@@ -188,23 +194,27 @@ module _ (s : List ℕ) (c e v m last : ℕ) (given : Given s c e v m last) wher
         clean = unfold SoundAt Clean in sound .1;
       }
 
--- a sound node has a live parent
-pub sound-above : (t : Table) (sets : Sets) → SoundAt t (sets .set) (sets .chosen) → LiveAbove t (nodeOf sets)
-unfolding SoundAt LiveAbove nodeOf
-sound-above t sets sound p x e =
-    let n : length p + 1 ≡ min (sets .chosen) (length (sets .set)) = sym (length-append p (x ∷ [])) ∙ ap length (sym e) ∙ length-take (sets .chosen) (sets .set) in
-    let q : p ≡ take (length p) (sets .set) = sym (take-append-seam p (x ∷ [])) ∙ ap (take (length p)) (sym e) ∙ take-take (length p) (sets .chosen) (sets .set) (omega arith) in
-    ap (dead sameRole t) q ∙ sound .2 (length p) (omega arith)
-
--- a sibling's level is the one at hand
-pub shared-sibling : (s : List ℕ) (m : ℕ) (from next : Sets) (level : Level) → from .chosen ≡ next .chosen → Kin from next → Shared s m from level → Shared s m next level
-unfolding Kin Shared
-shared-sibling s m from next level e kin shared h =
-    subst (λ (p : Node). Levels (tableOf s) p m level) (sym (kin .1 (sym e))) (shared (omega arith))
-
-pub shared-root : (s : List ℕ) (m : ℕ) (sets : Sets) (level : Level) → sets .chosen ≡ 0 → Shared s m sets level
-unfolding Shared
-shared-root s m sets level e h = absurd (let z : ⊥ = omega arith in z)
+  -- what a sweep from the node asks
+  pub given-sweep : (fill mask start : List ℕ) (level : Level) (sets : Sets) → Prepares s fill mask start → SoundAt (tableOf s) (sets .set) (sets .chosen) → Kin (tableOf s) sets
+      → Levels (tableOf s) (take (sets .chosen - 1) (sets .set)) m level → SweepGiven s fill start level c e v m sets last
+  unfolding Kin SoundAt
+  given-sweep fill mask start level sets prepared sound kin levels =
+      record {
+        child = λ row-room room. record {
+          node = given-node sets sound;
+          fills = prepared .fills;
+          fill-room = prepared .fill-room;
+          starts = prepared .starts;
+          start-room = prepared .start-room;
+          row-room = row-room;
+          room = room;
+          some = kin .0;
+          level = levels;
+          live = let h : 0 < sets .chosen = kin .0 in sound .2 (sets .chosen - 1) (omega arith);
+        };
+        first = let h : getD (sets .set) (sets .chosen - 1) 0 < 2 ^ atoms (tableOf s) = kin .1 in let w : 2 ^ atoms (tableOf s) ≡ last + 1 = given .width in omega arith;
+        narrow = given .narrow;
+      }
 
 -- the counts, read off the table's bytes
 pub given-table : (s : List ℕ) (c e v m last : ℕ) → T (isReadable (reading s)) → c ≡ byteAt s 5 → v ≡ byteAt s 7 → e ≡ byteAt s 8 → m ≡ byteAt s 9 → last + 1 ≡ 2 ^ (c + e) → Given s c e v m last
@@ -271,10 +281,137 @@ module _ (t : Table) (b n : ℕ) (sets : Sets) (inv : outcome sameRole t b ≡ s
         let k : LookedAs t sets Over to = subst (λ (x : Going). LookedAs t sets x to) e looked in
         inv ∙ turn-over (ends sameRole t) b n more (rest t sets) (nodeOf sets) (k .1) (k .0)
 
-    pub walked-on : g ≡ On → SoundAt t (to .set) (to .chosen) × Kin sets to × (outcome sameRole t b ≡ scan (ends sameRole t) (b - (n + 1)) (n + 1) (rest t to))
+    pub walked-on : g ≡ On → SoundAt t (to .set) (to .chosen) × Kin t to × (outcome sameRole t b ≡ scan (ends sameRole t) (b - (n + 1)) (n + 1) (rest t to))
     walked-on e =
         let k : LookedAs t sets On to = subst (λ (x : Going). LookedAs t sets x to) e looked in
         (k .2, k .3, inv ∙ turn-on (ends sameRole t) b n more (rest t sets) (rest t to) (nodeOf sets) (k .1) (k .0))
+
+----------------------------------------------------------------------------------------------------
+-- A sweep over siblings
+
+module _ (t : Table) (last : ℕ) (width : 2 ^ atoms t ≡ last + 1) (sets : Sets) (some : 0 < sets .chosen) (fits : sets .chosen ≤ length (sets .set)) where
+  abbrev sibling : ℕ → Sets
+  sibling x = setsOf (siblingOf sets x) (sets .chosen)
+
+  -- a dead sibling that is not the last one is followed by the next
+  sibling-next : (x : ℕ) → x < last → deadSibling t sets x ≡ true → rest t (sibling x) ≡ nodeOf (sibling x) ∷ rest t (sibling (x + 1))
+  unfolding rest nodeOf deadSibling
+  sibling-next x h e =
+      let q : getD (siblingOf sets x) (sets .chosen - 1) 0 ≡ x = getD-set-same (sets .set) (sets .chosen - 1) x 0 (omega arith) in
+      remaining-dead sameRole t (siblingOf sets x) (sets .chosen) e
+      ∙ ap (λ (l : List Node). take (sets .chosen) (siblingOf sets x) ∷ l)
+      (afterwards-hit sameRole t (siblingOf sets x) (sets .chosen) some (let w : length (siblingOf sets x) ≡ length (sets .set) = length-set (sets .set) (sets .chosen - 1) x in omega arith) (omega arith)
+      ∙ ap (λ (l : List ℕ). remaining sameRole t l (sets .chosen)) (ap (λ (y : ℕ). set (siblingOf sets x) (sets .chosen - 1) (y + 1)) q ∙ set-set (sets .set) (sets .chosen - 1) x (x + 1)))
+
+  -- i dead siblings, gone along
+  swept-on : (b n : ℕ) → outcome sameRole t b ≡ scan (ends sameRole t) (b - n) n (rest t sets)
+      → (i : ℕ) → ownOf sets + i ≤ last → n + i ≤ b → Passes t sets i → outcome sameRole t b ≡ scan (ends sameRole t) (b - (n + i)) (n + i) (rest t (sibling (ownOf sets + i)))
+  unfolding rest
+  swept-on b n inv zero h l p =
+      inv ∙ ap₂ (λ (k : ℕ) (a : List ℕ). scan (ends sameRole t) (b - k) k (remaining sameRole t a (sets .chosen))) (sym (add-zero n))
+      (sym (ap (set (sets .set) (sets .chosen - 1)) (add-zero (ownOf sets)) ∙ set-getD (sets .set) (sets .chosen - 1) 0))
+  swept-on b n inv (suc i) h l p =
+      swept-on b n inv i (omega arith) (omega arith) (unfold Passes in λ j k. p j (omega arith))
+      ∙ turn-on (ends sameRole t) b (n + i) (omega arith) (rest t (sibling (ownOf sets + i))) (rest t (sibling (ownOf sets + i + 1))) (nodeOf (sibling (ownOf sets + i)))
+      (sibling-next (ownOf sets + i) (omega arith) here) (ends-dead t (nodeOf (sibling (ownOf sets + i))) (unfold nodeOf deadSibling in here))
+      ∙ ap₂ (λ (k x : ℕ). scan (ends sameRole t) (b - k) k (rest t (sibling x))) (omega arith) (omega arith)
+    where
+      here : deadSibling t sets (ownOf sets + i) ≡ true
+      here = unfold Passes in p i (omega arith)
+
+  -- the sweep of at most `most` siblings, and the node `here` where it ended
+  module _ (v : ℕ) (count : v ≡ t .variables) (sound : SoundAt t (sets .set) (sets .chosen)) (most : ℕ) (swept : Swept) (sweeps : Sweeps t sets last most swept) (here : Sets)
+      (set-is : here .set ≡ siblingOf sets (swept .at)) (chosen-is : here .chosen ≡ sets .chosen) where
+    is-sibling : here ≡ sibling (swept .at)
+    is-sibling = ap₂ (λ (a : List ℕ) (k : ℕ). setsOf a k) set-is chosen-is
+
+    here-sound : SoundAt t (here .set) (here .chosen)
+    here-sound = subst (λ (x : Sets). SoundAt t (x .set) (x .chosen)) (sym is-sibling) (next-sound t last width (sets .set) (sets .chosen) some fits (swept .at) sound)
+
+    here-few : here .chosen ≤ v
+    here-few = unfold SoundAt in (let h : here .chosen ≤ t .variables = here-sound .0 in omega arith)
+
+    here-dead : deadSibling t sets (swept .at) ≡ deadAt t here
+    here-dead = unfold deadSibling deadAt nodeOf in ap (λ (x : Sets). dead sameRole t (take (x .chosen) (x .set))) (sym is-sibling)
+
+    here-on : (b n : ℕ) → outcome sameRole t b ≡ scan (ends sameRole t) (b - n) n (rest t sets)
+        → (i : ℕ) → swept .at ≡ ownOf sets + i → n + i ≤ b → Passes t sets i → outcome sameRole t b ≡ scan (ends sameRole t) (b - (n + i)) (n + i) (rest t here)
+    here-on b n inv i e l p =
+        swept-on b n inv i (let w : swept .at ≤ last = sweeps .within in omega arith) l p
+        ∙ ap (λ (x : Sets). scan (ends sameRole t) (b - (n + i)) (n + i) (rest t x)) (ap sibling (sym e) ∙ sym is-sibling)
+
+    -- i siblings are dead, and the one at hand is examined
+    advanced : (i : ℕ) → swept .passed ≡ i + 1 → swept .at ≡ ownOf sets + i → Passes t sets i → (g : Going) (to : Sets) → LookedAs t here g to
+        → (b n : ℕ) → n + most ≡ b → outcome sameRole t b ≡ scan (ends sameRole t) (b - n) n (rest t sets) → AdvancesAs t v b (n + swept .passed) g to
+    advanced i all e p g to looked b n total inv = go g looked
+      where
+        more : n + i < b
+        more = let f : swept .passed ≤ most = sweeps .few in omega arith
+
+        so-far : outcome sameRole t b ≡ scan (ends sameRole t) (b - (n + i)) (n + i) (rest t here)
+        so-far = here-on b n inv i e (omega arith) p
+
+        passed : n + i + 1 ≡ n + swept .passed
+        passed = omega arith
+
+        go : (g : Going) → LookedAs t here g to → AdvancesAs t v b (n + swept .passed) g to
+        go Solved k =
+            let w = walked-found t b (n + i) here so-far more Solved to k refl in
+            (w .0 ∙ ap (λ (x : ℕ). solved x (nodeOf to)) passed, subst (λ (x : Sets). x .chosen ≤ v) (sym (w .1)) here-few)
+        go On k =
+            let w = walked-on t b (n + i) here so-far more On to k refl in
+            (w .0, w .1, w .2 ∙ ap (λ (x : ℕ). scan (ends sameRole t) (b - x) x (rest t to)) passed)
+        go Over k = walked-over t b (n + i) here so-far more Over to k refl ∙ ap nothing passed
+
+    module _ (step : Step) (d : Bool) (looks : SoundAt t (here .set) (here .chosen) → d ≡ deadAt t here → Looked t here step) where
+      looked-here : deadSibling t sets (swept .at) ≡ d → LookedAs t here (step .going) (step .sets)
+      looked-here e = unfold Looked in looks here-sound (sym e ∙ here-dead)
+
+      pub advanced-live : d ≡ false → swept .end ≡ level-ends.Live → Advances t v sets most (record { going = step .going; sets = step .sets; passed = swept .passed })
+      unfolding Advances
+      advanced-live z e =
+          let w = subst (λ (x : level-end.End). SweepsAs t sets last most x (swept .passed) (swept .at)) e (sweeps .ends) in
+          (let q : swept .passed ≡ w .0 + 1 = w .1 in omega arith, sweeps .few, advanced (w .0) (w .1) (w .2) (w .3) (step .going) (step .sets) (looked-here (w .4 ∙ sym z)))
+
+      pub advanced-over : d ≡ true → swept .end ≡ level-ends.Over → Advances t v sets most (record { going = step .going; sets = step .sets; passed = swept .passed })
+      unfolding Advances
+      advanced-over z e =
+          let w = subst (λ (x : level-end.End). SweepsAs t sets last most x (swept .passed) (swept .at)) e (sweeps .ends) in
+          (let q : swept .passed ≡ w .0 + 1 = w .1 in omega arith, sweeps .few, advanced (w .0) (w .1) (w .2) (w .3) (step .going) (step .sets) (looked-here (w .4 ∙ sym z)))
+
+    -- all that were allowed are dead
+    pub advanced-spent : swept .end ≡ level-ends.Spent → 0 < most → Advances t v sets most (record { going = On; sets = here; passed = swept .passed })
+    unfolding Advances
+    advanced-spent e h =
+        let w = subst (λ (x : level-end.End). SweepsAs t sets last most x (swept .passed) (swept .at)) e (sweeps .ends) in
+        let q : swept .passed ≡ most = w .0 in
+        (omega arith, sweeps .few, λ b n total inv. (here-sound, here-kin, here-on b n inv (swept .passed) (w .1) (omega arith) (w .2)))
+      where
+        here-kin : Kin t here
+        here-kin = subst (Kin t) (sym is-sibling) (kin-sibling t (sets .set) (sets .chosen) (swept .at) some fits (let f : swept .at ≤ last = sweeps .within in omega arith))
+
+-- the outcome, after the advance that the rest of the budget allowed
+module _ (t : Table) (v b n : ℕ) (sets : Sets) (more : n < b) (inv : outcome sameRole t b ≡ scan (ends sameRole t) (b - n) n (rest t sets)) (gone : Gone) (advances : Advances t v sets (b - n) gone) where
+  pub gone-fits : (0 < gone .passed) × (n + gone .passed ≤ b)
+  gone-fits = unfold Advances in (advances .0, let h : gone .passed ≤ b - n = advances .1 in omega arith)
+
+  gone-as : (g : Going) → gone .going ≡ g → AdvancesAs t v b (n + gone .passed) g (gone .sets)
+  gone-as g e = subst (λ (x : Going). AdvancesAs t v b (n + gone .passed) x (gone .sets)) e (unfold Advances in advances .2 b n (omega arith) inv)
+
+  pub gone-found : gone .going ≡ Solved → (outcome sameRole t b ≡ solved (n + gone .passed) (nodeOf (gone .sets))) × (gone .sets .chosen ≤ v)
+  gone-found e = gone-as Solved e
+
+  pub gone-over : gone .going ≡ Over → outcome sameRole t b ≡ nothing (n + gone .passed)
+  gone-over e = gone-as Over e
+
+  pub gone-on : gone .going ≡ On
+      → SoundAt t (gone .sets .set) (gone .sets .chosen) × Kin t (gone .sets) × (outcome sameRole t b ≡ scan (ends sameRole t) (b - (n + gone .passed)) (n + gone .passed) (rest t (gone .sets)))
+  gone-on e = gone-as On e
+
+-- a node on the way has a parent
+pub kin-some : (t : Table) (sets : Sets) → Kin t sets → 0 < sets .chosen
+unfolding Kin
+kin-some t sets kin = kin .0
 
 -- the start, at the root
 pub walked-start : (t : Table) (b : ℕ) (sets : Sets) → sets .chosen ≡ 0 → outcome sameRole t b ≡ scan (ends sameRole t) (b - 0) 0 (rest t sets)

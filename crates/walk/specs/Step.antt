@@ -4,12 +4,13 @@
 --   after t sets     == the nodes after those from that node down
 --   SoundAt t a k    == at the node (take k a) at most v variables are chosen, the others have the empty set, and no node above is dead
 --   Sound t sets     == the same of the node of `sets`
---   Kin sets to      == the node of `to` is not the root, and where it is a sibling the node above is the same
---   Shared s m sets level == the level is that of the children of the node above
+--   Kin t to         == the node of `to` is not the root, and its newest set is one of the table's
 --   Next t sets step == the step leads to what comes after the node
 --   deadAt t sets    == the node is dead
 --   Looked t sets step == the step examines the node and leads on
+--   Advances t v sets most r == a sweep over siblings, and the step after it
 --   Given s c e v m last == s is a readable table with these counts, and `last` is its last set number
+--   BelowGiven t sets b == the first child of a live root
 --   outcomeOf walked == the outcome that the walk's last state says
 use mathlib.Core.Path.{_≡_}
 use mathlib.Core.Bool.{Bool, true, false}
@@ -19,16 +20,16 @@ use lib.Dec.{T}
 use lib.ListN.{getD, take}
 use Rattle.el.specs.Description.{sameRole}
 use Rattle.el.specs.Table.{Table, atoms}
-use Rattle.el.specs.Walk.{Node, dead, ends, Outcome, solved, nothing, budget}
+use Rattle.el.specs.Walk.{Node, dead, ends, Outcome, solved, nothing, budget, outcome}
+use Rattle.el.specs.ScanLaws.{scan}
 use Rattle.el.specs.StepLaws.{remaining, afterwards}
 use Rattle.table.specs.Reading.{byteAt, reading, isReadable, tableOf}
 use Rattle.node.specs.declared.Sets.{Sets}
 use Rattle.node.specs.Node.{nodeOf}
-use Rattle.level.specs.declared.Level.{Level}
-use Rattle.level.specs.Level.{Levels}
 use Rattle.walk.specs.declared.Going.{Going}
 use Rattle.walk.specs.declared.Going.the-variants.{Solved, On, Over}
 use Rattle.walk.specs.declared.Step.{Step}
+use Rattle.walk.specs.declared.Gone.{Gone}
 use Rattle.walk.specs.declared.End.{End}
 use Rattle.walk.specs.declared.End.the-variants.{Found, Nothing, Spent}
 use Rattle.walk.specs.declared.Walked.{Walked}
@@ -48,17 +49,13 @@ SoundAt t a k =
 abbrev pub Sound : Table → Sets → Type 0
 Sound t sets = SoundAt t (sets .set) (sets .chosen)
 
--- a node on the way is not the root, and a sibling has the same node above it
-unfoldable pub Kin : Sets → Sets → Type 0
-Kin sets to = (0 < to .chosen) × (to .chosen ≡ sets .chosen → take (to .chosen - 1) (to .set) ≡ take (sets .chosen - 1) (sets .set))
-
--- what the children of the node above share, wherever there is one
-unfoldable pub Shared : List ℕ → ℕ → Sets → Level → Type 0
-Shared s m sets level = 0 < sets .chosen → Levels (tableOf s) (take (sets .chosen - 1) (sets .set)) m level
+-- a node on the way is not the root, and its newest set is one of the table's
+unfoldable pub Kin : Table → Sets → Type 0
+Kin t to = (0 < to .chosen) × (getD (to .set) (to .chosen - 1) 0 < 2 ^ atoms t)
 
 abbrev pub NextAs : Table → Sets → Going → Sets → Type 0
 NextAs t sets Solved to = ⊥
-NextAs t sets On to = (after t sets ≡ rest t to) × (Sound t sets → Sound t to) × Kin sets to
+NextAs t sets On to = (after t sets ≡ rest t to) × (Sound t sets → Sound t to) × Kin t to
 NextAs t sets Over to = after t sets ≡ []
 
 unfoldable pub Next : Table → Sets → Step → Type 0
@@ -69,11 +66,22 @@ deadAt t sets = dead sameRole t (nodeOf sets)
 
 abbrev pub LookedAs : Table → Sets → Going → Sets → Type 0
 LookedAs t sets Solved to = (ends sameRole t (nodeOf sets) ≡ true) × (to ≡ sets)
-LookedAs t sets On to = (ends sameRole t (nodeOf sets) ≡ false) × (rest t sets ≡ nodeOf sets ∷ rest t to) × Sound t to × Kin sets to
+LookedAs t sets On to = (ends sameRole t (nodeOf sets) ≡ false) × (rest t sets ≡ nodeOf sets ∷ rest t to) × Sound t to × Kin t to
 LookedAs t sets Over to = (ends sameRole t (nodeOf sets) ≡ false) × (rest t sets ≡ nodeOf sets ∷ [])
 
 unfoldable pub Looked : Table → Sets → Step → Type 0
 Looked t sets step = LookedAs t sets (step .going) (step .sets)
+
+-- what a sweep and the step after it lead to: `n` nodes were examined before, and b is the budget
+abbrev pub AdvancesAs : Table → ℕ → ℕ → ℕ → Going → Sets → Type 0
+AdvancesAs t v b n Solved to = (outcome sameRole t b ≡ solved n (nodeOf to)) × (to .chosen ≤ v)
+AdvancesAs t v b n On to = Sound t to × Kin t to × (outcome sameRole t b ≡ scan (ends sameRole t) (b - n) n (rest t to))
+AdvancesAs t v b n Over to = outcome sameRole t b ≡ nothing n
+
+unfoldable pub Advances : Table → ℕ → Sets → ℕ → Gone → Type 0
+Advances t v sets most r =
+    (0 < r .passed) × (r .passed ≤ most)
+    × ((b n : ℕ) → n + most ≡ b → outcome sameRole t b ≡ scan (ends sameRole t) (b - n) n (rest t sets) → AdvancesAs t v b (n + r .passed) (r .going) (r .sets))
 
 pub record Given (s : List ℕ) (c e v m last : ℕ) : Type 0 where
   pub readable : T (isReadable (reading s))
@@ -83,6 +91,13 @@ pub record Given (s : List ℕ) (c e v m last : ℕ) : Type 0 where
   pub lines : m ≡ byteAt s 9
   pub width : 2 ^ atoms (tableOf s) ≡ last + 1
   pub narrow : last < 2 ^ 24
+
+-- the first child of the root, which is live and counted
+pub record BelowGiven (t : Table) (sets : Sets) (b : ℕ) : Type 0 where
+  pub some : 0 < b
+  pub sound : Sound t sets
+  pub kin : Kin t sets
+  pub left : outcome sameRole t b ≡ scan (ends sameRole t) (b - 1) 1 (rest t sets)
 
 abbrev pub outcomeAs : End → ℕ → Node → Outcome
 outcomeAs Found n s = solved n s

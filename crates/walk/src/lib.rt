@@ -5,10 +5,11 @@ ghost use lib.Dec.{T};
 ghost use lib.ListN.{set};
 ghost use Rattle.el.specs.Description.{sameRole};
 ghost use Rattle.el.specs.Table.{Table, atoms};
-ghost use Rattle.el.specs.Walk.{dead, outcome};
+ghost use Rattle.el.specs.Walk.{outcome};
 ghost use Rattle.table.specs.Reading.{byteAt, reading, isReadable, tableOf};
-ghost use Rattle.node.specs.Node.{nodeOf, NodeGiven, Prepares, LiveAbove};
-ghost use Rattle.walk.specs.Step.{Sound, Kin, Shared, deadAt, Next, Looked, Given, outcomeOf};
+ghost use Rattle.node.specs.Node.{Prepares};
+ghost use Rattle.level.specs.Level.{siblingOf, SweepGiven};
+ghost use Rattle.walk.specs.Step.{Sound, deadAt, Next, Looked, Given, Advances, BelowGiven, outcomeOf};
 use level::Level;
 use node::Sets;
 
@@ -73,30 +74,6 @@ fn next_node(sets: Sets, last: u32) -> Step
     }
 }
 
-// Is the node dead? The root is tested whole, a child by what its level leaves to test.
-fn is_dead(
-    table: &[u8],
-    fill: &[u32],
-    mask: &[u32],
-    start: &[usize],
-    level: Level,
-    c: usize,
-    e: usize,
-    v: usize,
-    m: usize,
-    sets: Sets,
-) -> bool
-    requires { ⌜ NodeGiven (now table) c e v m sets × Prepares (now table) (now fill) (now mask) (now start) ⌝ }
-    requires { ⌜ LiveAbove (tableOf (now table)) (nodeOf sets) × Shared (now table) m sets level ⌝ }
-    ensures { λ r. ⌜ r ≡ dead sameRole (tableOf (now (table .entry))) (nodeOf sets) ⌝ }
-{
-    let k = sets.chosen;
-    if k == 0 {
-        return node::is_dead(table, c, e, v, m, sets);
-    }
-    level::is_dead(table, fill, mask, start, level, c, e, v, m, sets)
-}
-
 // One node examined: dead, it is left; live and full, it ends the walk; live, it is followed by its first child.
 fn look(dead: bool, v: usize, sets: Sets, last: u32) -> Step
     requires { ⌜ (v ≤ 12) × (sets .chosen ≤ v) × (last < 2 ^ 24) ⌝ }
@@ -118,63 +95,100 @@ fn look(dead: bool, v: usize, sets: Sets, last: u32) -> Step
     }
 }
 
-// The level of the next node: a sibling has the one at hand.
-fn level_for(
+// Where a sweep and the step after it lead, and how many nodes were examined.
+pub struct Gone {
+    pub going: Going,
+    pub sets: Sets,
+    pub passed: u32,
+}
+
+// The sibling with the set number x.
+fn moved(sets: Sets, x: u32) -> Sets
+    requires { ⌜ (0 < sets .chosen) × (sets .chosen ≤ 12) ⌝ }
+    ensures { λ r. ⌜ (r .set ≡ siblingOf sets x) × (r .chosen ≡ sets .chosen) ⌝ }
+{
+    let mut set = sets.set;
+    let k = sets.chosen;
+    set[k - 1] = x;
+    Sets { set, chosen: k }
+}
+
+// Sweeps over the siblings from the node on, at most `most` of them, and steps on from where that ends.
+fn advance(
     table: &[u8],
     fill: &[u32],
-    mask: &[u32],
     start: &[usize],
     level: Level,
     c: usize,
     e: usize,
     v: usize,
     m: usize,
-    from: Sets,
-    next: Sets,
-) -> Level
-    requires { ⌜ NodeGiven (now table) c e v m next × Prepares (now table) (now fill) (now mask) (now start) ⌝ }
-    requires { ⌜ Kin from next × Shared (now table) m from level ⌝ }
-    ensures { λ r. ⌜ Shared (now (table .entry)) m next r ⌝ }
+    sets: Sets,
+    last: u32,
+    most: u32,
+) -> Gone
+    requires { ⌜ Given (now table) c e v m last × SweepGiven (now table) (now fill) (now start) level c e v m sets last ⌝ }
+    requires { ⌜ Sound (tableOf (now table)) sets × (0 < most) ⌝ }
+    ensures { λ r. ⌜ Advances (tableOf (now (table .entry))) v sets most r ⌝ }
 {
-    let j = from.chosen;
-    let k = next.chosen;
-    if j == k {
-        return level;
+    let swept = level::sweep(table, fill, start, level, c, e, v, m, sets, last, most);
+    let here = moved(sets, swept.at);
+    let passed = swept.passed;
+    let end = swept.end;
+    match end {
+        level::End::Live => {
+            let step = look(false, v, here, last);
+            let next = step.sets;
+            let going = step.going;
+            Gone {
+                going,
+                sets: next,
+                passed,
+            }
+        }
+        level::End::Over => {
+            let step = look(true, v, here, last);
+            let next = step.sets;
+            let going = step.going;
+            Gone {
+                going,
+                sets: next,
+                passed,
+            }
+        }
+        level::End::Spent => Gone {
+            going: Going::On,
+            sets: here,
+            passed,
+        },
     }
-    level::level_of(table, fill, mask, start, c, e, v, m, next)
 }
 
-// The walk from the root, with the table's counts and its last set number at hand.
-fn walk_from_root(
+// The walk below a live root of a table with open names, the root being counted.
+fn walk_below(
     table: &[u8],
+    fill: &[u32],
+    mask: &[u32],
+    start: &[usize],
     c: usize,
     e: usize,
     v: usize,
     m: usize,
+    first: Sets,
     last: u32,
     budget: u32,
 ) -> Walked
-    requires { ⌜ Given (now table) c e v m last ⌝ }
+    requires { ⌜ Given (now table) c e v m last × Prepares (now table) (now fill) (now mask) (now start) ⌝ }
+    requires { ⌜ BelowGiven (tableOf (now table)) first budget ⌝ }
     ensures { λ r. ⌜ (outcomeOf r ≡ outcome sameRole (tableOf (now (table .entry))) budget) × (r .sets .chosen ≤ v) ⌝ }
 {
-    let prepared = node::prepare(table, e, m);
-    let fill = prepared.fill;
-    let mask = prepared.mask;
-    let start = prepared.start;
-    let mut sets = Sets {
-        set: [0u32; 12],
-        chosen: 0,
-    };
-    let mut level = Level {
-        row: [0u32; 12],
-        fresh: [0u8; 64],
-        few: 0,
-    };
-    let mut count: u32 = 0;
+    let mut sets = first;
+    let mut level = level::level_of(table, fill, mask, start, c, e, v, m, first);
+    let mut count: u32 = 1;
     while count < budget {
-        count += 1;
-        let dead = is_dead(table, &fill, &mask, &start, level, c, e, v, m, sets);
-        let step = look(dead, v, sets, last);
+        let most = budget - count;
+        let step = advance(table, fill, start, level, c, e, v, m, sets, last, most);
+        count += step.passed;
         let next = step.sets;
         let going = step.going;
         match going {
@@ -193,7 +207,7 @@ fn walk_from_root(
                 };
             }
             Going::On => {
-                level = level_for(table, &fill, &mask, &start, level, c, e, v, m, sets, next);
+                level = level::level_of(table, fill, mask, start, c, e, v, m, next);
                 sets = next;
             }
         }
@@ -202,6 +216,54 @@ fn walk_from_root(
         end: End::Spent,
         count,
         sets,
+    }
+}
+
+// The walk from the root, with the table's counts and its last set number at hand.
+fn walk_from_root(
+    table: &[u8],
+    c: usize,
+    e: usize,
+    v: usize,
+    m: usize,
+    last: u32,
+    budget: u32,
+) -> Walked
+    requires { ⌜ Given (now table) c e v m last ⌝ }
+    ensures { λ r. ⌜ (outcomeOf r ≡ outcome sameRole (tableOf (now (table .entry))) budget) × (r .sets .chosen ≤ v) ⌝ }
+{
+    let root = Sets {
+        set: [0u32; 12],
+        chosen: 0,
+    };
+    if budget == 0 {
+        return Walked {
+            end: End::Spent,
+            count: 0,
+            sets: root,
+        };
+    }
+    let step = look(node::is_dead(table, c, e, v, m, root), v, root, last);
+    let next = step.sets;
+    let going = step.going;
+    match going {
+        Going::Solved => Walked {
+            end: End::Found,
+            count: 1,
+            sets: next,
+        },
+        Going::Over => Walked {
+            end: End::Nothing,
+            count: 1,
+            sets: root,
+        },
+        Going::On => {
+            let prepared = node::prepare(table, e, m);
+            let fill = prepared.fill;
+            let mask = prepared.mask;
+            let start = prepared.start;
+            walk_below(table, &fill, &mask, &start, c, e, v, m, next, last, budget)
+        }
     }
 }
 

@@ -15,56 +15,52 @@ use Rattle.order.proofs.line_holds.Reads as line-holds-reads
 use Rattle.table.proofs.wide.Reads as wide-reads
 
 abbrev Inv-loop : tie.InvT-loop
-Inv-loop table start c e v set fresh few i₀ i = (i ≤ few) × (freshFails table set fresh i ≡ false)
+Inv-loop table start fresh few c e v set i₀ i = (i ≤ few) × (freshFails table set fresh i ≡ false)
 
 abbrev μ-loop : tie.MeasureT-loop
-μ-loop table start c e v set fresh few i₀ i = few - i
+μ-loop table start fresh few c e v set i₀ i = few - i
 
--- src/lib.rt:83:5
+-- src/lib.rt:119:5
 loop-holds : tie.Need-loop-holds Inv-loop μ-loop
 loop-holds c = (omega arith, lines-start _ _ _)
 
--- src/lib.rt:84:29
-array-read-wide : tie.Need-array-read-wide Inv-loop μ-loop
-array-read-wide c = (let n : length (c .before .before .before .before .before .before .args .level .fresh) ≡ 64 = search needs in let f = c .before .before .before .before .before .before .pre .few-fit in let k = c .loop-test .taken in omega arith)
+-- src/lib.rt:120:29
+shared-slice-read-wide : tie.Need-shared-slice-read-wide Inv-loop μ-loop
+shared-slice-read-wide c = (let f = c .before .before .before .before .before .before .before .pre .few-fit in let k = c .before .loop-test .taken in omega arith)
 
--- src/lib.rt:84:13
+-- src/lib.rt:120:13
 wide-requires : tie.Need-wide-requires Inv-loop μ-loop
 wide-requires c κs = search needs
 
--- src/lib.rt:85:38
-slice-aggregate-line-holds : tie.Need-slice-aggregate-line-holds Inv-loop μ-loop
-slice-aggregate-line-holds c = search needs
-
--- src/lib.rt:85:56
+-- src/lib.rt:121:55
 mul-line-holds : tie.Need-mul-line-holds Inv-loop μ-loop
-mul-line-holds c = (let h = fresh-in _ _ _ _ _ _ _ (c .before .before .before .before .before .before .before .before .pre) _ _ (c .before .before .loop-test .taken) (c .before .wide .ensures) in search needs)
+mul-line-holds c = (let h = fresh-in _ _ _ _ _ _ _ _ (c .before .before .before .before .before .before .before .before .pre) _ _ (c .before .before .loop-test .taken) (c .wide .ensures) in search needs)
 
--- src/lib.rt:85:56
+-- src/lib.rt:121:55
 shared-slice-read-line-holds : tie.Need-shared-slice-read-line-holds Inv-loop μ-loop
-shared-slice-read-line-holds c = fresh-in _ _ _ _ _ _ _ (c .before .before .before .before .before .before .before .before .before .pre) _ _ (c .before .before .before .loop-test .taken) (c .before .before .wide .ensures)
+shared-slice-read-line-holds c = fresh-in _ _ _ _ _ _ _ _ (c .before .before .before .before .before .before .before .before .before .pre) _ _ (c .before .before .before .loop-test .taken) (c .before .wide .ensures)
 
--- src/lib.rt:85:13
+-- src/lib.rt:121:13
 line-holds-requires : tie.Need-line-holds-requires Inv-loop μ-loop
-line-holds-requires c κs = (let n : length (c .before .before .before .before .before .before .before .before .before .args .sets .set) ≡ 12 = search needs in fresh-line _ _ _ _ _ _ _ (c .before .before .before .before .before .before .before .before .before .pre) _ _ (c .before .before .before .loop-test .taken) (c .before .before .wide .ensures) n)
+line-holds-requires c κs = fresh-line _ _ _ _ _ _ _ _ (c .before .before .before .before .before .before .before .before .before .pre) _ _ (c .before .before .before .loop-test .taken) (c .before .wide .ensures)
 
--- src/lib.rt:86:13
+-- src/lib.rt:122:13
 returns : tie.Need-returns Inv-loop μ-loop
-returns c = lines-fail _ _ _ _ _ (c .before .before .before .before .wide .ensures) _ (c .before .line-holds .ensures) _ (c .before .before .before .before .before .loop-test .taken) (c .if1 .taken)
+returns c = lines-fail _ _ _ _ _ (c .before .before .before .wide .ensures) _ (c .before .line-holds .ensures) _ (c .before .before .before .before .before .loop-test .taken) (c .if1 .taken)
 
--- src/lib.rt:88:9
+-- src/lib.rt:124:9
 add-i : tie.Need-add-i Inv-loop μ-loop
 add-i c = search needs
 
--- src/lib.rt:83:5
+-- src/lib.rt:119:5
 loop-less : tie.Need-loop-less Inv-loop μ-loop
 loop-less c = search needs
 
--- src/lib.rt:83:5
+-- src/lib.rt:119:5
 loop-again : tie.Need-loop-again Inv-loop μ-loop
-loop-again c = (omega arith, lines-next _ _ _ _ _ (c .before .before .before .before .wide .ensures) _ (c .before .line-holds .ensures) (c .if1 .left) (c .before .before .before .before .before .before .loop .inv .1))
+loop-again c = (omega arith, lines-next _ _ _ _ _ (c .before .before .before .wide .ensures) _ (c .before .line-holds .ensures) (c .if1 .left) (c .before .before .before .before .before .before .loop .inv .1))
 
--- src/lib.rt:75:1
+-- src/lib.rt:105:1
 returns-2 : tie.Need-returns-2 Inv-loop μ-loop
 returns-2 c = lines-whole _ _ _ _ _ (c .before .loop .inv .0) (c .loop-test .left) (c .before .loop .inv .1)
 
@@ -75,9 +71,8 @@ fresh-fails-spec =
     Inv-loop
     μ-loop
     loop-holds
-    array-read-wide
+    shared-slice-read-wide
     wide-requires
-    slice-aggregate-line-holds
     mul-line-holds
     shared-slice-read-line-holds
     line-holds-requires

@@ -6,7 +6,7 @@ use native.Mathlib.Omega.{arith}
 use lib.ListN.{length}
 use Rattle.el.specs.Table.{Table, atoms}
 use Rattle.walk.specs.Step.{Next, rest, after}
-use Rattle.walk.proofs.Laws.{Goes, goes-start, goes-up, next-sibling, next-none, kin-sibling}
+use Rattle.walk.proofs.Laws.{Goes, goes-start, goes-up, next-sibling, next-none}
 use Rattle.walk.proofs.next_node.Statement.{statement}
 use Rattle.walk.proofs.next_node.Tie as tie
 use Rattle.walk.proofs.next_node.Reads as reads
@@ -14,14 +14,14 @@ use Rattle.walk.proofs.next_node.Lts as lts
 
 abbrev Inv-loop : tie.InvT-loop
 Inv-loop last set₀ k₀ set k =
-    (length set ≡ 12) × (k ≤ k₀) × (k₀ ≤ 12) × ((t : Table) → 2 ^ atoms t ≡ last + 1 → Goes t set₀ k₀ set k) × (k ≡ k₀ → set ≡ set₀)
+    (length set ≡ 12) × (k ≤ k₀) × (k₀ ≤ 12) × ((t : Table) → 2 ^ atoms t ≡ last + 1 → Goes t set₀ k₀ set k)
 
 abbrev μ-loop : tie.MeasureT-loop
 μ-loop last set₀ k₀ set k = k
 
 -- src/lib.rt:40:5
 loop-holds : tie.Need-loop-holds Inv-loop μ-loop
-loop-holds c = (search needs, omega arith, omega arith, (λ t e. goes-start t _ _), λ q. refl)
+loop-holds c = (search needs, omega arith, omega arith, λ t e. goes-start t _ _)
 
 -- src/lib.rt:41:21
 sub-x : tie.Need-sub-x Inv-loop μ-loop
@@ -54,9 +54,7 @@ array-write-set c = search needs
 -- src/lib.rt:44:13
 returns : tie.Need-returns Inv-loop μ-loop
 unfolding Next rest after
-returns c =
-    λ t e. (let w = next-sibling t _ e _ _ (c .before .loop-test .taken) (omega arith) _ _ (c .if1 .taken) (c .before .before .loop .inv .3 t e) in
-    (w .0, w .1, kin-sibling _ _ _ _ _ (c .before .loop-test .taken) (c .before .before .loop .inv .4)))
+returns c = λ t e. next-sibling t _ e _ _ (c .before .loop-test .taken) (omega arith) _ _ (c .if1 .taken) (c .before .before .loop .inv .3 t e)
 
 -- src/lib.rt:46:9
 sub-k : tie.Need-sub-k Inv-loop μ-loop
@@ -80,8 +78,7 @@ loop-again c = (
   search needs,
   omega arith,
   omega arith,
-  (λ t e. goes-up t _ e _ _ (c .before .loop-test .taken) (omega arith) _ _ (c .if1 .left) (c .before .before .loop .inv .3 t e)),
-  λ q. absurd (let z : ⊥ = omega arith in z),
+  λ t e. goes-up t _ e _ _ (c .before .loop-test .taken) (omega arith) _ _ (c .if1 .left) (c .before .before .loop .inv .3 t e),
 )
 
 -- src/lib.rt:34:1

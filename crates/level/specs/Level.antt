@@ -1,6 +1,9 @@
 -- What the children of one live node share.
 --
 --   newBy rows d n w        == a variable with the direct dependences d leads to w, over the rows of the first n variables
+--   Back y w, Out y w       == w is y itself, w comes after y
+--   WaysTo W fill rows c y k mask == the mask has the atoms of those of the first k restrictions that lead a variable y with them to one of W
+--   Tells t p W mask        == a child of p whose newest set has an atom of the mask leads to a variable of W by it, and no other child does
 --   passing q n             == the numbers below n that pass q, in rising order
 --   freshMask own a k       == the mask `own` has a bit of the mask a, and only bits of the mask k
 --   isFresh mask a k n      == line n has a variable of the mask a, and only variables of the mask k
@@ -26,11 +29,11 @@ use Rattle.el.specs.Table.{Table}
 use Rattle.el.specs.Meaning.{holds}
 use Rattle.el.specs.Assignment.{acyclic, induced}
 use Rattle.el.specs.Walk.{Node, dead}
-use Rattle.el.specs.ChildLaws.{freshly}
+use Rattle.el.specs.ChildLaws.{newly, freshly}
 use Rattle.table.specs.Reading.{byteAt, reading, isReadable, tableOf}
 use Rattle.table.specs.Layout.{lineAt}
 use Rattle.node.specs.declared.Sets.{Sets}
-use Rattle.node.specs.Node.{Shows, FillMasks, LineStarts, NodeGiven, rowOf}
+use Rattle.node.specs.Node.{LineStarts, NodeGiven, rowOf}
 use Rattle.level.specs.declared.Level.{Level}
 use Rattle.level.specs.declared.End.{End}
 use Rattle.level.specs.declared.End.the-variants.{Live, Over, Spent}
@@ -38,6 +41,23 @@ use Rattle.level.specs.declared.Swept.{Swept}
 
 unfoldable pub newBy : List ℕ → ℕ → ℕ → ℕ → Bool
 newBy rows d n w = bit w d || anyBelow n (λ u. bit u d && bit w (rowOf rows u))
+
+abbrev pub Back : ℕ → ℕ → Type 0
+Back y w = w ≡ y
+
+abbrev pub Out : ℕ → ℕ → Type 0
+Out y w = y < w
+
+unfoldable pub WaysTo : (ℕ → Type 0) → List ℕ → List ℕ → ℕ → ℕ → ℕ → ℕ → Type 0
+WaysTo W fill rows c y k mask =
+    ((i : ℕ) → bit i mask ≡ true → (j : ℕ) × (j < k) × (i ≡ c + j) × (w : ℕ) × W w × (newBy rows (getD fill j 0) y w ≡ true))
+    × ((j : ℕ) → j < k → (w : ℕ) → W w → newBy rows (getD fill j 0) y w ≡ true → bit (c + j) mask ≡ true)
+
+unfoldable pub Tells : Table → Node → (ℕ → Type 0) → ℕ → Type 0
+Tells t p W mask =
+    (x : ℕ)
+    → ((bitAnd x mask ≡ 0 → ⊥) → (w : ℕ) × W w × (newly t p x w ≡ true))
+    × (bitAnd x mask ≡ 0 → (w : ℕ) → W w → newly t p x w ≡ false)
 
 unfoldable pub passing : (ℕ → Bool) → ℕ → List ℕ
 passing q zero = []
@@ -54,7 +74,8 @@ pub record Listed (q : ℕ → Bool) (m : ℕ) (fresh : List ℕ) (few : ℕ) : 
   pub few-fit : few ≤ length fresh
 
 pub record Levels (t : Table) (p : Node) (m : ℕ) (level : Level) : Type 0 where
-  pub rows : Shows t p (level .row)
+  pub turning : Tells t p (Back (length p)) (level .turning)
+  pub leaving : Tells t p (Out (length p)) (level .leaving)
   pub lines : Listed (λ n. freshly t p (lineAt (t .lines) n)) m (level .fresh) (level .few)
 
 unfoldable pub failsAt : List ℕ → List ℕ → ℕ → Bool
@@ -79,24 +100,21 @@ pub record FreshGiven (s start : List ℕ) (c e v : ℕ) (fresh : List ℕ) (few
 abbrev pub setsOf : List ℕ → ℕ → Sets
 setsOf set k = record { set = set; chosen = k }
 
-abbrev pub levelOf : List ℕ → List ℕ → ℕ → Level
-levelOf row fresh few = record { row = row; fresh = fresh; few = few }
+abbrev pub levelOf : ℕ → ℕ → List ℕ → ℕ → Level
+levelOf turning leaving fresh few = record { turning = turning; leaving = leaving; fresh = fresh; few = few }
 
 -- a child of a live node, and the level that it is tested by
-pub record ChildGiven (s fill start row fresh : List ℕ) (few c e v m k : ℕ) (set : List ℕ) : Type 0 where
+pub record ChildGiven (s start : List ℕ) (turning leaving : ℕ) (fresh : List ℕ) (few c e v m k : ℕ) (set : List ℕ) : Type 0 where
   pub node : NodeGiven s c e v m (setsOf set k)
-  pub fills : FillMasks (tableOf s .rows) (byteAt s 8) fill
-  pub fill-room : length fill ≡ 24
   pub starts : LineStarts s (byteAt s 9) start
   pub start-room : length start ≡ 64
-  pub row-room : length row ≡ 12
   pub room : length set ≡ 12
   pub some : 0 < k
-  pub level : Levels (tableOf s) (take (k - 1) set) m (levelOf row fresh few)
+  pub level : Levels (tableOf s) (take (k - 1) set) m (levelOf turning leaving fresh few)
   pub live : dead sameRole (tableOf s) (take (k - 1) set) ≡ false
 
-pub record SweepGiven (s fill start : List ℕ) (level : Level) (c e v m : ℕ) (sets : Sets) (last : ℕ) : Type 0 where
-  pub child : length (level .row) ≡ 12 → length (sets .set) ≡ 12 → ChildGiven s fill start (level .row) (level .fresh) (level .few) c e v m (sets .chosen) (sets .set)
+pub record SweepGiven (s start : List ℕ) (level : Level) (c e v m : ℕ) (sets : Sets) (last : ℕ) : Type 0 where
+  pub child : length (sets .set) ≡ 12 → ChildGiven s start (level .turning) (level .leaving) (level .fresh) (level .few) c e v m (sets .chosen) (sets .set)
   pub first : getD (sets .set) (sets .chosen - 1) 0 ≤ last
   pub narrow : last < 2 ^ 24
 

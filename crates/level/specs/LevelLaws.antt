@@ -8,7 +8,11 @@
 --   lines-start, lines-fail, lines-next, lines-whole, fresh-in, fresh-line == the loop over the lines listed
 --   node-child, parent-shows == the node above the node of the sets
 --   level-whole, level-made == the level that is made so
---   new-empty, direct-none == a set without restrictions leads nowhere
+--   new-empty      == where there are no direct dependences
+--   bit-added, bit-kept == a bit that is set where a test says so
+--   ways-start, ways-more, ways-whole == the loop that marks the atoms that lead to a variable of W
+--   back-some, back-all, out-some, out-all == how such a variable is found in a mask
+--   ways-tell      == what those atoms say of the children
 --   below-given, dead-cycle, dead-open, dead-fresh == the test of a child by its level
 use mathlib.Core.Path.{_≡_, refl, sym, ap, ap₂, subst, _∙_}
 use mathlib.Core.Bool.{Bool, true, false, _&&_, _||_, not}
@@ -39,7 +43,7 @@ use Rattle.table.specs.Layout.{Layout, lineAt}
 use Rattle.table.specs.LayoutLaws.{layout}
 use Rattle.order.specs.Given.{LineGiven}
 use Rattle.node.specs.declared.Sets.{Sets}
-use Rattle.node.specs.Node.{nodeOf, Clean, Masks, isAmong, dependsBy, FillMasks, LineMasks, LineStarts, Fills, Prepares, rowOf, Shows, Squares, settledBy, leadsBy, LiveAbove, NodeGiven}
+use Rattle.node.specs.Node.{nodeOf, Clean, Masks, isAmong, dependsBy, FillMasks, LineMasks, LineStarts, Fills, Prepares, rowOf, Shows, Squares, settledBy, leadsBy, NodeGiven}
 use Rattle.order.specs.BitLaws.{bit-or, bit-and}
 use Rattle.node.specs.MaskLaws.{has-bit, bit-more, or-none, no-bits, high-none, none-high, masks-or, masks-same}
 use Rattle.node.specs.CodeLaws.{eqb-comm, mask-one}
@@ -48,7 +52,7 @@ use Rattle.node.specs.SquareLaws.{depends-filled, set-node, length-node, reache
 use Rattle.node.specs.DeadLaws.{same-holds, any-below}
 use Rattle.node.specs.NodeTestLaws.{node-layout, node-few, square-needs}
 use Rattle.level.specs.declared.Level.{Level}
-use Rattle.level.specs.Level.{newBy, passing, freshMask, isFresh, Listed, Levels, failsAt, freshFails, FreshGiven}
+use Rattle.level.specs.Level.{newBy, Back, Out, WaysTo, Tells, passing, freshMask, isFresh, Listed, Levels, failsAt, freshFails, FreshGiven}
 
 ----------------------------------------------------------------------------------------------------
 -- The newest variable's dependences, followed
@@ -89,11 +93,77 @@ module _ (rows : List ℕ) (d : ℕ) where
   pub new-whole : (n z m : ℕ) → z ≤ n → n ≤ z → Masks (newBy rows d z) m → Masks (newBy rows d n) m
   new-whole n z m h k is = let e : z ≡ n = omega arith in subst (λ (i : ℕ). Masks (newBy rows d i) m) e is
 
--- a set number without a bit from c on has no restriction
-pub direct-none : (fill : List ℕ) (c e x : ℕ) → x / 2 ^ c ≡ 0 → Masks (dependsBy fill c x e) 0
-unfolding dependsBy
-direct-none fill c e x h y =
-    bit-none y ∙ sym (anyBelow-none e (λ i. bit (c + i) x && bit y (getD fill i 0)) (λ i l. ap (λ (b : Bool). b && bit y (getD fill i 0)) (high-none x c (c + i) h (omega arith))))
+-- a number with something left above bit k has a bit there
+pub some-high : (n k : ℕ) → (n / 2 ^ k ≡ 0 → ⊥) → (w : ℕ) × (k ≤ w) × (bit w n ≡ true)
+some-high n k h = go (has-bit (n / 2 ^ k) h)
+  where
+    go : (i : ℕ) × (bit i (n / 2 ^ k) ≡ true) → (w : ℕ) × (k ≤ w) × (bit w n ≡ true)
+    go f = (k + f .0, omega arith, sym (bit-more k (f .0) n) ∙ f .1)
+
+-- a bit that is set where `on` says so
+module _ (q : ℕ → Bool) (m i : ℕ) (on : Bool) (is : Masks q m) where
+  pub bit-added : i < 32 → on ≡ true → Masks (λ z. q z || (on && eqb i z)) (bitOr m (1 * 2 ^ i % 4294967296))
+  bit-added h e z = masks-or q (λ x. eqb i x) m (1 * 2 ^ i % 4294967296) is (mask-one i h) z ∙ ap (λ (b : Bool). q z || (b && eqb i z)) (sym e)
+
+  pub bit-kept : on ≡ false → Masks (λ z. q z || (on && eqb i z)) m
+  bit-kept e z = is z ∙ sym (or-none (q z)) ∙ ap (λ (b : Bool). q z || (b && eqb i z)) (sym e)
+
+----------------------------------------------------------------------------------------------------
+-- The atoms that lead to a variable of W, and the loop that marks them
+
+module _ (W : ℕ → Type 0) (fill rows : List ℕ) (c y : ℕ) where
+  pub ways-start : WaysTo W fill rows c y 0 0
+  unfolding WaysTo
+  ways-start = ((λ i e. absurd (false-not (bit i 0) (bit-none i) (true-is (bit i 0) e))), λ j h. absurd (let z : ⊥ = omega arith in z))
+
+  -- the restriction k is marked where what it leads to, `leads`, has a variable of W
+  pub ways-more : (k leads m r : ℕ) (on : Bool) → Masks (newBy rows (getD fill k 0) y) leads
+      → (on ≡ true → (w : ℕ) × W w × (bit w leads ≡ true)) → ((w : ℕ) → W w → bit w leads ≡ true → on ≡ true)
+      → ((q : ℕ → Bool) → Masks q m → Masks (λ z. q z || (on && eqb (c + k) z)) r) → WaysTo W fill rows c y k m → WaysTo W fill rows c y (k + 1) r
+  unfolding WaysTo
+  ways-more k leads m r on is some all adds so-far = (marked, marks)
+    where
+      r-is : (i : ℕ) → bit i r ≡ bit i m || (on && eqb (c + k) i)
+      r-is i = adds (λ z. bit z m) (λ z. refl) i
+
+      marked : (i : ℕ) → bit i r ≡ true → (j : ℕ) × (j < k + 1) × (i ≡ c + j) × (w : ℕ) × W w × (newBy rows (getD fill j 0) y w ≡ true)
+      marked i e = go (or-cases (bit i m) (on && eqb (c + k) i) (true-is (bit i m || (on && eqb (c + k) i)) (sym (r-is i) ∙ e)))
+        where
+          go : T (bit i m) ⊎ T (on && eqb (c + k) i) → (j : ℕ) × (j < k + 1) × (i ≡ c + j) × (w : ℕ) × W w × (newBy rows (getD fill j 0) y w ≡ true)
+          go (inl h) = let f = so-far .0 i (is-true (bit i m) h) in (f .0, (let l : f .0 < k = f .1 in omega arith), f .2, f .3, f .4, f .5)
+          go (inr h) =
+              let f = some (is-true on (and-left on (eqb (c + k) i) h)) in
+              (k, omega arith, sym (eqb→eq (c + k) i (and-right on (eqb (c + k) i) h)), f .0, f .1, sym (is (f .0)) ∙ f .2)
+
+      marks : (j : ℕ) → j < k + 1 → (w : ℕ) → W w → newBy rows (getD fill j 0) y w ≡ true → bit (c + j) r ≡ true
+      marks j h w in-W e = go (ℕ-discrete j k)
+        where
+          go : Dec (j ≡ k) → bit (c + j) r ≡ true
+          go (yes q) =
+              r-is (c + j) ∙ is-true (bit (c + j) m || (on && eqb (c + k) (c + j)))
+              (or-right (bit (c + j) m) (on && eqb (c + k) (c + j)) (and-make on (eqb (c + k) (c + j))
+              (true-is on (all w in-W (is w ∙ ap (λ (i : ℕ). newBy rows (getD fill i 0) y w) (sym q) ∙ e)))
+              (true-is (eqb (c + k) (c + j)) (eq-eqb (c + k) (c + j) (omega arith)))))
+          go (no q) = r-is (c + j) ∙ ap (λ (b : Bool). b || (on && eqb (c + k) (c + j))) (so-far .1 j (omega arith) w in-W e)
+
+  pub ways-whole : (e k m : ℕ) → k ≤ e → e ≤ k → WaysTo W fill rows c y k m → WaysTo W fill rows c y e m
+  ways-whole e k m h l is = let q : k ≡ e = omega arith in subst (λ (i : ℕ). WaysTo W fill rows c y i m) q is
+
+-- how the two kinds of variables are found in a mask
+pub back-some : (y leads : ℕ) (on : Bool) → on ≡ bit y leads → on ≡ true → (w : ℕ) × Back y w × (bit w leads ≡ true)
+back-some y leads on e h = (y, refl, sym e ∙ h)
+
+pub back-all : (y leads : ℕ) (on : Bool) → on ≡ bit y leads → (w : ℕ) → Back y w → bit w leads ≡ true → on ≡ true
+back-all y leads on e w q h = e ∙ ap (λ (i : ℕ). bit i leads) (sym q) ∙ h
+
+pub out-some : (y leads : ℕ) (on : Bool) → on ≡ not (eqb (leads / 2 ^ (y + 1)) 0) → on ≡ true → (w : ℕ) × Out y w × (bit w leads ≡ true)
+out-some y leads on e h =
+    let f = some-high leads (y + 1) (λ z. T-not (eqb (leads / 2 ^ (y + 1)) 0) (true-is (not (eqb (leads / 2 ^ (y + 1)) 0)) (sym e ∙ h)) (true-is (eqb (leads / 2 ^ (y + 1)) 0) (eq-eqb (leads / 2 ^ (y + 1)) 0 z))) in
+    (f .0, (let l : y + 1 ≤ f .0 = f .1 in omega arith), f .2)
+
+pub out-all : (y leads : ℕ) (on : Bool) → on ≡ not (eqb (leads / 2 ^ (y + 1)) 0) → (w : ℕ) → Out y w → bit w leads ≡ true → on ≡ true
+out-all y leads on e w q h =
+    e ∙ ap not (ne-eqb (leads / 2 ^ (y + 1)) 0 (λ z. false-not (bit w leads) (high-none leads (y + 1) w z (omega arith)) (true-is (bit w leads) h)))
 
 ----------------------------------------------------------------------------------------------------
 -- The numbers that pass a test
@@ -206,13 +276,6 @@ fresh-none own a k h = sym (ap (λ (x : Bool). not x && eqb (bitAnd own k) own) 
 pub fresh-some : (own a k : ℕ) → (bitAnd own a ≡ 0 → ⊥) → eqb (bitAnd own k) own ≡ freshMask own a k
 unfolding freshMask
 fresh-some own a k h = sym (ap (λ (x : Bool). not x && eqb (bitAnd own k) own) (ne-eqb (bitAnd own a) 0 h))
-
--- a number with something left above bit k has a bit there
-pub some-high : (n k : ℕ) → (n / 2 ^ k ≡ 0 → ⊥) → (w : ℕ) × (k ≤ w) × (bit w n ≡ true)
-some-high n k h = go (has-bit (n / 2 ^ k) h)
-  where
-    go : (i : ℕ) × (bit i (n / 2 ^ k) ≡ true) → (w : ℕ) × (k ≤ w) × (bit w n ≡ true)
-    go f = (k + f .0, omega arith, sym (bit-more k (f .0) n) ∙ f .1)
 
 -- what is asked of the first numbers of a list
 any-take : (r : ℕ → Bool) (l : List ℕ) (n : ℕ) → n ≤ length l → anyBelow n (λ i. r (getD l i 0)) ≡ anyOf r (take n l)
@@ -418,39 +481,144 @@ module _ (s : List ℕ) (c e v m : ℕ) (sets : Sets) (given : NodeGiven s c e v
         same : nodeOf above ≡ parent
         same = unfold nodeOf in (ap₂ (λ (i : ℕ) (l : List ℕ). take i l) k e ∙ parent-node)
 
-    -- THE LEVEL
-    pub level-whole : (level : Level) (y a k : ℕ) → y ≡ sets .chosen - 1 → Shows (tableOf s) parent (level .row)
-        → Masks (leadsBy (level .row) y y) a → Masks (settledBy (level .row) (y + 1) (y + 1)) k
-        → Listed (isFresh mask (bitOr a (1 * 2 ^ y % 4294967296)) k) m (level .fresh) (level .few) → Levels (tableOf s) parent m level
-    level-whole level y a k q shows about near listed =
-        record {
-          rows = shows;
-          lines = record { numbers = listed .numbers ∙ passing-same (isFresh mask (bitOr a (1 * 2 ^ y % 4294967296)) k) (λ n. freshly (tableOf s) parent (lineAt (tableOf s .lines) n)) m each; few-fit = listed .few-fit };
-        }
-      where
-        known : T (declared (tableOf s))
-        known = node-layout s c e v m sets given .all-declared
+    module _ (rows : List ℕ) (shows : Shows (tableOf s) parent rows) where
+      row-says : (u w : ℕ) → bit w (rowOf rows u) ≡ reaches (tableOf s) parent u w
+      row-says u w = (unfold Shows in shows u w)
 
-        here : y ≡ length parent
-        here = q ∙ sym parent-length
+      own-set : (x : ℕ) → setOf (childOf parent x) (length parent) ≡ x
+      unfolding setOf
+      own-set x = getD-append-seam parent x [] 0
 
-        small : y < 32
-        small = let h : sets .chosen ≤ 12 = node-few s c e v m sets given in omega arith
+      -- the direct dependences of a newest variable with the set x
+      direct-says : (x w : ℕ) → dependsBy fill c x e w ≡ depends (tableOf s) (childOf parent x) (length parent) w
+      direct-says x w =
+          ap (λ (z : ℕ). dependsBy fill c z e w) (sym (own-set x))
+          ∙ depends-filled (tableOf s) c e fill (fills-of fill (ready .fills)) (childOf parent x) (length parent) w
 
-        each : (n : ℕ) → n < m → isFresh mask (bitOr a (1 * 2 ^ y % 4294967296)) k n ≡ freshly (tableOf s) parent (lineAt (tableOf s .lines) n)
-        each n h =
-            fresh-says (tableOf s) known parent (level .row) parent-few shows m n (bitOr a (1 * 2 ^ y % 4294967296)) k mask
-            (subst (λ (i : ℕ). LineMasks (tableOf s) i mask) (sym (given .lines)) (ready .masks)) h
-            (about-says (tableOf s) known parent (level .row) parent-few shows y a here small about)
-            (near-says (tableOf s) known parent (level .row) parent-few shows y k here near)
+      -- what the newest variable leads to over another one
+      abbrev Over : ℕ → ℕ → ℕ → Bool
+      Over x w u = depends (tableOf s) (childOf parent x) (length parent) u && reaches (tableOf s) parent u w
 
-    -- the same, with the square's rows at hand
-    pub level-made : (level : Level) (rows : List ℕ) (y a k : ℕ) → level .row ≡ rows → y ≡ sets .chosen - 1 → Shows (tableOf s) parent rows
-        → Masks (leadsBy rows y y) a → Masks (settledBy rows (y + 1) (y + 1)) k
-        → Listed (isFresh mask (bitOr a (1 * 2 ^ y % 4294967296)) k) m (level .fresh) (level .few) → Levels (tableOf s) parent m level
-    level-made level rows y a k r q shows about near listed =
-        level-whole level y a k q (subst (Shows (tableOf s) parent) (sym r) shows)
-        (subst (λ (x : List ℕ). Masks (leadsBy x y y) a) (sym r) about) (subst (λ (x : List ℕ). Masks (settledBy x (y + 1) (y + 1)) k) (sym r) near) listed
+      -- what a restriction of the set leads to, the newest variable leads to
+      restriction-leads : (x j w : ℕ) → j < e → bit (c + j) x ≡ true → newBy rows (getD fill j 0) (sets .chosen - 1) w ≡ true → newly (tableOf s) parent x w ≡ true
+      restriction-leads x j w h b n =
+          is-true (newly (tableOf s) parent x w) (unfold newly in go (or-cases (bit w (getD fill j 0)) (anyBelow (sets .chosen - 1) (λ u. bit u (getD fill j 0) && bit w (rowOf rows u)))
+          (unfold newBy in true-is (newBy rows (getD fill j 0) (sets .chosen - 1) w) n)))
+        where
+          on : (z : ℕ) → T (bit z (getD fill j 0)) → T (depends (tableOf s) (childOf parent x) (length parent) z)
+          on z g =
+              subst T (direct-says x z)
+              (unfold dependsBy in anyBelow-hit e j (λ i. bit (c + i) x && bit z (getD fill i 0)) h (and-make (bit (c + j) x) (bit z (getD fill j 0)) (true-is (bit (c + j) x) b) g))
+
+          go : T (bit w (getD fill j 0)) ⊎ T (anyBelow (sets .chosen - 1) (λ u. bit u (getD fill j 0) && bit w (rowOf rows u)))
+              → T (depends (tableOf s) (childOf parent x) (length parent) w || anyBelow (tableOf s .variables) (Over x w))
+          go (inl g) = or-left (depends (tableOf s) (childOf parent x) (length parent) w) (anyBelow (tableOf s .variables) (Over x w)) (on w g)
+          go (inr g) =
+              let f = anyBelow-found (sets .chosen - 1) (λ u. bit u (getD fill j 0) && bit w (rowOf rows u)) g in
+              let l : f .0 < sets .chosen - 1 = f .1 in let k = parent-few in let q = parent-length in
+              or-right (depends (tableOf s) (childOf parent x) (length parent) w) (anyBelow (tableOf s .variables) (Over x w))
+              (anyBelow-hit (tableOf s .variables) (f .0) (Over x w) (omega arith)
+              (and-make (depends (tableOf s) (childOf parent x) (length parent) (f .0)) (reaches (tableOf s) parent (f .0) w)
+              (on (f .0) (and-left (bit (f .0) (getD fill j 0)) (bit w (rowOf rows (f .0))) (f .2)))
+              (subst T (row-says (f .0) w) (and-right (bit (f .0) (getD fill j 0)) (bit w (rowOf rows (f .0))) (f .2)))))
+
+      -- and it leads only to what one of them leads to
+      leads-restriction : (x w : ℕ) → newly (tableOf s) parent x w ≡ true → (j : ℕ) × (j < e) × (bit (c + j) x ≡ true) × (newBy rows (getD fill j 0) (sets .chosen - 1) w ≡ true)
+      leads-restriction x w n = go (or-cases (depends (tableOf s) (childOf parent x) (length parent) w) (anyBelow (tableOf s .variables) (Over x w)) (unfold newly in true-is (newly (tableOf s) parent x w) n))
+        where
+          found : (z : ℕ) → T (depends (tableOf s) (childOf parent x) (length parent) z) → (j : ℕ) × (j < e) × (bit (c + j) x ≡ true) × T (bit z (getD fill j 0))
+          found z g =
+              let f = anyBelow-found e (λ i. bit (c + i) x && bit z (getD fill i 0)) (unfold dependsBy in subst T (sym (direct-says x z)) g) in
+              (f .0, f .1, is-true (bit (c + f .0) x) (and-left (bit (c + f .0) x) (bit z (getD fill (f .0) 0)) (f .2)), and-right (bit (c + f .0) x) (bit z (getD fill (f .0) 0)) (f .2))
+
+          low : (u : ℕ) → T (reaches (tableOf s) parent u w) → u < sets .chosen - 1
+          low u g = at (decLt u (sets .chosen - 1))
+            where
+              at : Dec (u < sets .chosen - 1) → u < sets .chosen - 1
+              at (yes h) = h
+              at (no h) = absurd (false-not (reaches (tableOf s) parent u w) (reaches-unchosen (tableOf s) parent (let k = parent-few in omega arith) u w (let q = parent-length in omega arith)) g)
+
+          by : (j : ℕ) → T (bit w (getD fill j 0) || anyBelow (sets .chosen - 1) (λ u. bit u (getD fill j 0) && bit w (rowOf rows u))) → newBy rows (getD fill j 0) (sets .chosen - 1) w ≡ true
+          by j g = is-true (newBy rows (getD fill j 0) (sets .chosen - 1) w) (unfold newBy in g)
+
+          go : T (depends (tableOf s) (childOf parent x) (length parent) w) ⊎ T (anyBelow (tableOf s .variables) (Over x w))
+              → (j : ℕ) × (j < e) × (bit (c + j) x ≡ true) × (newBy rows (getD fill j 0) (sets .chosen - 1) w ≡ true)
+          go (inl g) =
+              let f = found w g in
+              (f .0, f .1, f .2, by (f .0) (or-left (bit w (getD fill (f .0) 0)) (anyBelow (sets .chosen - 1) (λ u. bit u (getD fill (f .0) 0) && bit w (rowOf rows u))) (f .3)))
+          go (inr g) =
+              let a = anyBelow-found (tableOf s .variables) (Over x w) g in
+              let u = a .0 in
+              let r : T (reaches (tableOf s) parent u w) = and-right (depends (tableOf s) (childOf parent x) (length parent) u) (reaches (tableOf s) parent u w) (a .2) in
+              let f = found u (and-left (depends (tableOf s) (childOf parent x) (length parent) u) (reaches (tableOf s) parent u w) (a .2)) in (
+                f .0,
+                f .1,
+                f .2,
+                by (f .0) (or-right (bit w (getD fill (f .0) 0)) (anyBelow (sets .chosen - 1) (λ z. bit z (getD fill (f .0) 0) && bit w (rowOf rows z)))
+                    (anyBelow-hit (sets .chosen - 1) u (λ z. bit z (getD fill (f .0) 0) && bit w (rowOf rows z)) (low u r)
+                    (and-make (bit u (getD fill (f .0) 0)) (bit w (rowOf rows u)) (f .3) (subst T (sym (row-says u w)) r)))),
+              )
+
+      pub ways-tell : (W : ℕ → Type 0) (atoms : ℕ) → WaysTo W fill rows c (sets .chosen - 1) e atoms → Tells (tableOf s) parent W atoms
+      unfolding WaysTo Tells
+      ways-tell W atoms ways x = (found, nowhere)
+        where
+          found : (bitAnd x atoms ≡ 0 → ⊥) → (w : ℕ) × W w × (newly (tableOf s) parent x w ≡ true)
+          found h =
+              let b = has-bit (bitAnd x atoms) h in
+              let i = b .0 in
+              let g : T (bit i x && bit i atoms) = true-is (bit i x && bit i atoms) (sym (bit-and i x atoms) ∙ b .1) in
+              let f = ways .0 i (is-true (bit i atoms) (and-right (bit i x) (bit i atoms) g)) in
+              (f .3, f .4, restriction-leads x (f .0) (f .3) (f .1) (ap (λ (z : ℕ). bit z x) (sym (f .2)) ∙ is-true (bit i x) (and-left (bit i x) (bit i atoms) g)) (f .5))
+
+          nowhere : bitAnd x atoms ≡ 0 → (w : ℕ) → W w → newly (tableOf s) parent x w ≡ false
+          nowhere z w in-W =
+              is-false (newly (tableOf s) parent x w)
+              (λ g. let f = leads-restriction x w (is-true (newly (tableOf s) parent x w) g) in
+              let i = c + f .0 in
+              false-not (bit i (bitAnd x atoms)) (ap (bit i) z ∙ bit-none i)
+              (subst T (sym (bit-and i x atoms)) (and-make (bit i x) (bit i atoms) (true-is (bit i x) (f .2)) (true-is (bit i atoms) (ways .1 (f .0) (f .1) w in-W (f .3))))))
+
+      -- THE LEVEL
+      pub level-whole : (level : Level) (y a k : ℕ) → y ≡ sets .chosen - 1
+          → WaysTo (Back y) fill rows c y e (level .turning) → WaysTo (Out y) fill rows c y e (level .leaving)
+          → Masks (leadsBy rows y y) a → Masks (settledBy rows (y + 1) (y + 1)) k
+          → Listed (isFresh mask (bitOr a (1 * 2 ^ y % 4294967296)) k) m (level .fresh) (level .few) → Levels (tableOf s) parent m level
+      level-whole level y a k q turning leaving about near listed =
+          record {
+            turning = told (λ z. Back z) (level .turning) turning;
+            leaving = told (λ z. Out z) (level .leaving) leaving;
+            lines = record { numbers = listed .numbers ∙ passing-same (isFresh mask (bitOr a (1 * 2 ^ y % 4294967296)) k) (λ n. freshly (tableOf s) parent (lineAt (tableOf s .lines) n)) m each; few-fit = listed .few-fit };
+          }
+        where
+          known : T (declared (tableOf s))
+          known = node-layout s c e v m sets given .all-declared
+
+          here : y ≡ length parent
+          here = q ∙ sym parent-length
+
+          told : (W : ℕ → ℕ → Type 0) (mask : ℕ) → WaysTo (W y) fill rows c y e mask → Tells (tableOf s) parent (W (length parent)) mask
+          told W mask ways =
+              subst (λ (z : ℕ). Tells (tableOf s) parent (W z) mask) here
+              (ways-tell (W y) mask (subst (λ (z : ℕ). WaysTo (W y) fill rows c z e mask) q ways))
+
+          small : y < 32
+          small = let h : sets .chosen ≤ 12 = node-few s c e v m sets given in omega arith
+
+          each : (n : ℕ) → n < m → isFresh mask (bitOr a (1 * 2 ^ y % 4294967296)) k n ≡ freshly (tableOf s) parent (lineAt (tableOf s .lines) n)
+          each n h =
+              fresh-says (tableOf s) known parent rows parent-few shows m n (bitOr a (1 * 2 ^ y % 4294967296)) k mask
+              (subst (λ (i : ℕ). LineMasks (tableOf s) i mask) (sym (given .lines)) (ready .masks)) h
+              (about-says (tableOf s) known parent rows parent-few shows y a here small about)
+              (near-says (tableOf s) known parent rows parent-few shows y k here near)
+
+      -- the same, with the two masks at hand
+      pub level-made : (level : Level) (turning leaving y a k : ℕ) → level .turning ≡ turning → level .leaving ≡ leaving → y ≡ sets .chosen - 1
+          → WaysTo (Back y) fill rows c y e turning → WaysTo (Out y) fill rows c y e leaving
+          → Masks (leadsBy rows y y) a → Masks (settledBy rows (y + 1) (y + 1)) k
+          → Listed (isFresh mask (bitOr a (1 * 2 ^ y % 4294967296)) k) m (level .fresh) (level .few) → Levels (tableOf s) parent m level
+      level-made level turning leaving y a k p r q back out about near listed =
+          level-whole level y a k q (subst (WaysTo (Back y) fill rows c y e) (sym p) back) (subst (WaysTo (Out y) fill rows c y e) (sym r) out) about near listed
 
     pub parent-needs : (c + e ≤ 24) × (e ≤ length fill) × (sets .chosen - 1 ≤ 12) × Clean (record { set = set (sets .set) (sets .chosen - 1) 0; chosen = sets .chosen - 1 })
     unfolding Clean
@@ -464,46 +632,10 @@ module _ (s : List ℕ) (c e v m : ℕ) (sets : Sets) (given : NodeGiven s c e v
     few-lines = let f : byteAt s 9 ≤ 64 = node-layout s c e v m sets given .few-lines in let q : m ≡ byteAt s 9 = given .lines in (omega arith, ready .mask-room)
 
   -- THE TEST OF A CHILD
-  module _ (fill start : List ℕ) (masks : FillMasks (tableOf s .rows) (byteAt s 8) fill) (starts : LineStarts s (byteAt s 9) start) (start-room : length start ≡ 64) where
-    module _ (level : Level) (is : Levels (tableOf s) parent m level) (parent-live : dead sameRole (tableOf s) parent ≡ false) (d leads : ℕ)
-        (direct : Masks (dependsBy fill c own e) d) (follows : Masks (newBy (level .row) d (sets .chosen - 1)) leads) where
+  module _ (start : List ℕ) (starts : LineStarts s (byteAt s 9) start) (start-room : length start ≡ 64) where
+    module _ (level : Level) (is : Levels (tableOf s) parent m level) (parent-live : dead sameRole (tableOf s) parent ≡ false) where
       known-table : T (declared (tableOf s))
       known-table = node-layout s c e v m sets given .all-declared
-
-      own-set : setOf (childOf parent own) (length parent) ≡ own
-      unfolding setOf
-      own-set = getD-append-seam parent own [] 0
-
-      direct-says : (w : ℕ) → bit w d ≡ depends (tableOf s) (childOf parent own) (length parent) w
-      direct-says w =
-          direct w ∙ ap (λ (x : ℕ). dependsBy fill c x e w) (sym own-set)
-          ∙ depends-filled (tableOf s) c e fill (fills-of fill masks) (childOf parent own) (length parent) w
-
-      row-says : (u w : ℕ) → bit w (rowOf (level .row) u) ≡ reaches (tableOf s) parent u w
-      row-says u w = (unfold Shows in is .rows u w)
-
-      -- the mask says what the newest variable leads to
-      pub leads-is : (w : ℕ) → bit w leads ≡ newly (tableOf s) parent own w
-      leads-is w = follows w ∙ (unfold newBy newly in ap₂ _||_ (direct-says w) over)
-        where
-          D : ℕ → Bool
-          D u = depends (tableOf s) (childOf parent own) (length parent) u && reaches (tableOf s) parent u w
-
-          over : anyBelow (sets .chosen - 1) (λ u. bit u d && bit w (rowOf (level .row) u)) ≡ anyBelow (tableOf s .variables) D
-          over =
-              anyBelow-same (sets .chosen - 1) (λ u. bit u d && bit w (rowOf (level .row) u)) D (λ u h. ap₂ _&&_ (direct-says u) (row-says u w))
-              ∙ same-test (anyBelow (sets .chosen - 1) D) (anyBelow (tableOf s .variables) D)
-              (λ a. let f = anyBelow-found (sets .chosen - 1) D a in let h : f .0 < sets .chosen - 1 = f .1 in let n = parent-length in let k = parent-few in anyBelow-hit (tableOf s .variables) (f .0) D (omega arith) (f .2))
-              (λ a. let f = anyBelow-found (tableOf s .variables) D a in anyBelow-hit (sets .chosen - 1) (f .0) D (low (f .0) (f .2)) (f .2))
-            where
-              low : (u : ℕ) → T (D u) → u < sets .chosen - 1
-              low u g = go (decLt u (sets .chosen - 1))
-                where
-                  go : Dec (u < sets .chosen - 1) → u < sets .chosen - 1
-                  go (yes h) = h
-                  go (no h) =
-                      absurd (false-not (reaches (tableOf s) parent u w) (reaches-unchosen (tableOf s) parent (let k = parent-few in omega arith) u w (let n = parent-length in omega arith))
-                      (and-right (depends (tableOf s) (childOf parent own) (length parent) u) (reaches (tableOf s) parent u w) g))
 
       parent-straight : acyclic (tableOf s) parent ≡ true
       parent-straight = go (acyclic (tableOf s) parent) refl
@@ -512,39 +644,36 @@ module _ (s : List ℕ) (c e v m : ℕ) (sets : Sets) (given : NodeGiven s c e v
           go true q = q
           go false q = absurd (false-not (dead sameRole (tableOf s) parent) parent-live (true-is (dead sameRole (tableOf s) parent) (dead-cyclic sameRole (tableOf s) parent q)))
 
-      newest : newly (tableOf s) parent own (length parent) ≡ bit (sets .chosen - 1) leads
-      newest = sym (leads-is (length parent)) ∙ ap (λ (i : ℕ). bit i leads) parent-length
-
       as-child : (b : Bool) → dead sameRole (tableOf s) (childOf parent own) ≡ b → b ≡ dead sameRole (tableOf s) (nodeOf sets)
       as-child b q = sym q ∙ ap (dead sameRole (tableOf s)) (sym node-child)
 
-      pub dead-cycle : bit (sets .chosen - 1) leads ≡ true → true ≡ dead sameRole (tableOf s) (nodeOf sets)
-      dead-cycle q =
+      pub dead-cycle : (bitAnd own (level .turning) ≡ 0 → ⊥) → true ≡ dead sameRole (tableOf s) (nodeOf sets)
+      unfolding Tells
+      dead-cycle h =
+          let f = is .turning own .0 h in
           as-child true (dead-cyclic sameRole (tableOf s) (childOf parent own)
-          (child-acyclic (tableOf s) known-table parent own parent-straight ∙ ap not (newest ∙ q)))
+          (child-acyclic (tableOf s) known-table parent own parent-straight ∙ ap not (subst (λ (w : ℕ). newly (tableOf s) parent own w ≡ true) (f .1) (f .2))))
 
-      module _ (none : bit (sets .chosen - 1) leads ≡ false) where
-        straight : acyclic (tableOf s) (childOf parent own) ≡ true
-        straight = child-acyclic (tableOf s) known-table parent own parent-straight ∙ ap not (newest ∙ none)
-
+      module _ (none : bitAnd own (level .turning) ≡ 0) where
         no-new : newly (tableOf s) parent own (length parent) ≡ false
-        no-new = newest ∙ none
+        no-new = unfold Tells in is .turning own .1 none (length parent) refl
 
-        pub dead-open : (leads / 2 ^ sets .chosen ≡ 0 → ⊥) → false ≡ dead sameRole (tableOf s) (nodeOf sets)
-        dead-open h = go (some-high leads (sets .chosen) h)
-          where
-            go : (w : ℕ) × (sets .chosen ≤ w) × (bit w leads ≡ true) → false ≡ dead sameRole (tableOf s) (nodeOf sets)
-            go f =
-                as-child false (child-open (tableOf s) known-table parent own sameRole parent-live no-new straight (f .0)
-                (let l : sets .chosen ≤ f .0 = f .1 in let n = parent-length in omega arith) (sym (leads-is (f .0)) ∙ f .2))
+        straight : acyclic (tableOf s) (childOf parent own) ≡ true
+        straight = child-acyclic (tableOf s) known-table parent own parent-straight ∙ ap not no-new
 
-        module _ (low : leads / 2 ^ sets .chosen ≡ 0) where
+        pub dead-open : (bitAnd own (level .leaving) ≡ 0 → ⊥) → false ≡ dead sameRole (tableOf s) (nodeOf sets)
+        unfolding Tells
+        dead-open h =
+            let f = is .leaving own .0 h in
+            as-child false (child-open (tableOf s) known-table parent own sameRole parent-live no-new straight (f .0) (f .1) (f .2))
+
+        module _ (low : bitAnd own (level .leaving) ≡ 0) where
           closed : (w : ℕ) → T (newly (tableOf s) parent own w) → w ≤ length parent
-          closed w g = go (decLt w (sets .chosen))
+          closed w g = go (decLt (length parent) w)
             where
-              go : Dec (w < sets .chosen) → w ≤ length parent
-              go (yes h) = let n = parent-length in omega arith
-              go (no h) = absurd (false-not (bit w leads) (high-none leads (sets .chosen) w low (omega arith)) (subst T (sym (leads-is w)) g))
+              go : Dec (length parent < w) → w ≤ length parent
+              go (yes h) = absurd (false-not (newly (tableOf s) parent own w) (unfold Tells in is .leaving own .1 low w h) g)
+              go (no h) = omega arith
 
           same-sets : (x : ℕ) → setOf (nodeOf sets) x ≡ setOf (sets .set) x
           unfolding setOf

@@ -23,9 +23,9 @@ use Rattle.node.specs.NodeTestLaws.{node-few}
 use Rattle.level.specs.declared.End.the-variants.{Live, Over, Spent}
 use Rattle.level.specs.Level.{Levels, setsOf, levelOf, ChildGiven, siblingOf, ownOf, deadSibling, Passes, Sweeps}
 
-child-sibling : (s fill start row fresh : List ℕ) (few c e v m k : ℕ) (a : List ℕ) (x : ℕ)
-    → ChildGiven s fill start row fresh few c e v m k a → ChildGiven s fill start row fresh few c e v m k (set a (k - 1) x)
-child-sibling s fill start row fresh few c e v m k a x given =
+child-sibling : (s start : List ℕ) (turning leaving : ℕ) (fresh : List ℕ) (few c e v m k : ℕ) (a : List ℕ) (x : ℕ)
+    → ChildGiven s start turning leaving fresh few c e v m k a → ChildGiven s start turning leaving fresh few c e v m k (set a (k - 1) x)
+child-sibling s start turning leaving fresh few c e v m k a x given =
     record {
       node = record {
         readable = given .node .readable;
@@ -36,14 +36,11 @@ child-sibling s fill start row fresh few c e v m k a x given =
         chosen = given .node .chosen;
         clean = clean;
       };
-      fills = given .fills;
-      fill-room = given .fill-room;
       starts = given .starts;
       start-room = given .start-room;
-      row-room = given .row-room;
       room = length-set a (k - 1) x ∙ given .room;
       some = given .some;
-      level = subst (λ (p : Node). Levels (tableOf s) p m (levelOf row fresh few)) (sym same) (given .level);
+      level = subst (λ (p : Node). Levels (tableOf s) p m (levelOf turning leaving fresh few)) (sym same) (given .level);
       live = ap (dead sameRole (tableOf s)) same ∙ given .live;
     }
   where
@@ -69,9 +66,9 @@ at-start t a k last h =
       dead-all = unfold Passes in λ j l. absurd (let z : ⊥ = omega arith in z);
     }
 
-module _ (s fill start row fresh : List ℕ) (few c e v m k : ℕ) (a : List ℕ) (given : ChildGiven s fill start row fresh few c e v m k a) (last passed : ℕ) (here : List ℕ) (at : At (tableOf s) a k last passed here) where
-  pub at-child : ChildGiven s fill start row fresh few c e v m k here
-  at-child = subst (ChildGiven s fill start row fresh few c e v m k) (sym (at .is)) (child-sibling s fill start row fresh few c e v m k a (ownOf (setsOf a k) + passed) given)
+module _ (s start : List ℕ) (turning leaving : ℕ) (fresh : List ℕ) (few c e v m k : ℕ) (a : List ℕ) (given : ChildGiven s start turning leaving fresh few c e v m k a) (last passed : ℕ) (here : List ℕ) (at : At (tableOf s) a k last passed here) where
+  pub at-child : ChildGiven s start turning leaving fresh few c e v m k here
+  at-child = subst (ChildGiven s start turning leaving fresh few c e v m k) (sym (at .is)) (child-sibling s start turning leaving fresh few c e v m k a (ownOf (setsOf a k) + passed) given)
 
   fits : k - 1 < length a
   fits = let z : 0 < k = given .some in let r : length a ≡ 12 = given .room in let h : k ≤ 12 = node-few s c e v m (setsOf a k) (given .node) in omega arith

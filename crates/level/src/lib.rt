@@ -1,32 +1,31 @@
 // A level of the walk: what the children of one live node share. Worked out once for a node, it leaves for each child the
 // newest variable's own dependences and the lines that only now are ready.
 ghost use mathlib.Core.Path.{_≡_};
-ghost use Prim.Native.Nat.{_+_, _-_, _≤_, _<_};
+ghost use mathlib.Core.Bool.{Bool, _&&_, _||_};
+ghost use Prim.Native.Nat.{ℕ, _+_, _-_, _≤_, _<_};
+ghost use lib.Dec.{eqb};
 ghost use lib.ListN.{length, take};
 ghost use Rattle.el.specs.Description.{sameRole};
 ghost use Rattle.el.specs.Walk.{dead};
 ghost use Rattle.table.specs.Reading.{tableOf};
-ghost use Rattle.node.specs.Node.{Masks, dependsBy, NodeGiven, Prepares};
-ghost use Rattle.level.specs.Level.{newBy, freshMask, isFresh, Listed, Levels, FreshGiven, freshFails, ChildGiven, SweepGiven, Sweeps};
+ghost use Rattle.node.specs.Node.{Masks, NodeGiven, Prepares};
+ghost use Rattle.level.specs.Level.{newBy, Back, Out, WaysTo, freshMask, isFresh, Listed, Levels, FreshGiven, freshFails, ChildGiven, SweepGiven, Sweeps};
 use node::Sets;
 use node::Square;
 
-// What the parent's variables reach, and the numbers of the lines that its children have to test.
+// The atoms that lead a newest variable back to itself, those that lead it to a variable that is not chosen, and the numbers of
+// the lines that the children have to test.
 pub struct Level {
-    pub row: [u32; 12],
+    pub turning: u32,
+    pub leaving: u32,
     pub fresh: [u8; 64],
     pub few: usize,
 }
 
-// The direct dependences of a variable with the set number x.
-fn direct_mask(fill: &[u32], c: usize, e: usize, x: u32) -> u32
-    requires { ⌜ (c + e ≤ 24) × (e ≤ length (now fill)) ⌝ }
-    ensures { λ r. ⌜ Masks (dependsBy (now (fill .entry)) c x e) r ⌝ }
-{
-    if (x >> c) == 0 {
-        return 0;
-    }
-    node::depends_row(fill, c, e, x)
+// The same two masks of atoms by themselves.
+struct Ways {
+    turning: u32,
+    leaving: u32,
 }
 
 // What a variable with the direct dependences `direct` leads to, over the first n variables' rows.
@@ -48,6 +47,35 @@ fn newly_mask(row: &[u32], n: usize, direct: u32) -> u32
     mask
 }
 
+// The mask, with the bit i where `on` says so.
+fn with_bit(mask: u32, i: usize, on: bool) -> u32
+    requires { ⌜ i < 32 ⌝ }
+    ensures { λ r. ⌜ ((q : ℕ → Bool) → Masks q mask → Masks (λ z. q z || (on && eqb i z)) r) ⌝ }
+{
+    if on {
+        return mask | (1u32 << i);
+    }
+    mask
+}
+
+// The atoms that lead a variable y with them back to y, and those that lead it to a variable after y.
+fn ways_of(fill: &[u32], c: usize, e: usize, square: Square, y: usize) -> Ways
+    requires { ⌜ (c + e ≤ 24) × (e ≤ length (now fill)) × (y < 12) ⌝ }
+    ensures { λ r. ⌜ WaysTo (Back y) (now (fill .entry)) (square .row) c y e (r .turning) × WaysTo (Out y) (now (fill .entry)) (square .row) c y e (r .leaving) ⌝ }
+{
+    let row = square.row;
+    let mut turning: u32 = 0;
+    let mut leaving: u32 = 0;
+    let mut k: usize = 0;
+    while k < e {
+        let leads = newly_mask(&row, y, fill[k]);
+        turning = with_bit(turning, c + k, (leads >> y) % 2 == 1);
+        leaving = with_bit(leaving, c + k, (leads >> (y + 1)) != 0);
+        k += 1;
+    }
+    Ways { turning, leaving }
+}
+
 // Has the line with the variables `own` one of `about`, and none that is not of `near`?
 fn passes(own: u32, about: u32, near: u32) -> bool
     ensures { λ r. ⌜ r ≡ freshMask own about near ⌝ }
@@ -59,9 +87,9 @@ fn passes(own: u32, about: u32, near: u32) -> bool
 }
 
 // The lines, m in number, that have a variable of `about` and only variables of `near`.
-fn collect(mask: &[u32], m: usize, about: u32, near: u32, square: Square) -> Level
+fn collect(mask: &[u32], m: usize, about: u32, near: u32, ways: Ways) -> Level
     requires { ⌜ (m ≤ 64) × (length (now mask) ≡ 64) ⌝ }
-    ensures { λ r. ⌜ (r .row ≡ square .row) × Listed (isFresh (now (mask .entry)) about near) m (r .fresh) (r .few) ⌝ }
+    ensures { λ r. ⌜ (r .turning ≡ ways .turning) × (r .leaving ≡ ways .leaving) × Listed (isFresh (now (mask .entry)) about near) m (r .fresh) (r .few) ⌝ }
 {
     let mut fresh = [0u8; 64];
     let mut few: usize = 0;
@@ -73,8 +101,14 @@ fn collect(mask: &[u32], m: usize, about: u32, near: u32, square: Square) -> Lev
         }
         n += 1;
     }
-    let row = square.row;
-    Level { row, fresh, few }
+    let turning = ways.turning;
+    let leaving = ways.leaving;
+    Level {
+        turning,
+        leaving,
+        fresh,
+        few,
+    }
 }
 
 // The level of a node: that of its parent's children.
@@ -98,7 +132,8 @@ pub fn level_of(
     let square = node::square_of(fill, c, e, Sets { set, chosen: y });
     let about = node::leads_mask(square, y, y) | (1u32 << y);
     let near = node::settled_mask(square, y + 1);
-    collect(mask, m, about, near, square)
+    let ways = ways_of(fill, c, e, square, y);
+    collect(mask, m, about, near, ways)
 }
 
 // One of the level's lines fails at the node.
@@ -130,9 +165,9 @@ fn fresh_fails(
 // lines fails; but where the newest variable leads to one that is not chosen, no line is ready that was not ready before.
 fn is_dead(
     table: &[u8],
-    fill: &[u32],
     start: &[usize],
-    row: &[u32],
+    turning: u32,
+    leaving: u32,
     fresh: &[u8],
     few: usize,
     c: usize,
@@ -142,15 +177,14 @@ fn is_dead(
     k: usize,
     set: &[u32],
 ) -> bool
-    requires { ⌜ ChildGiven (now table) (now fill) (now start) (now row) (now fresh) few c e v m k (now set) ⌝ }
+    requires { ⌜ ChildGiven (now table) (now start) turning leaving (now fresh) few c e v m k (now set) ⌝ }
     ensures { λ r. ⌜ r ≡ dead sameRole (tableOf (now (table .entry))) (take k (now (set .entry))) ⌝ }
 {
-    let y = k - 1;
-    let leads = newly_mask(row, y, direct_mask(fill, c, e, set[y]));
-    if (leads >> y) % 2 == 1 {
+    let x = set[k - 1];
+    if (x & turning) != 0 {
         return true;
     }
-    if (leads >> k) != 0 {
+    if (x & leaving) != 0 {
         return false;
     }
     fresh_fails(table, start, fresh, few, c, e, v, set)
@@ -173,7 +207,6 @@ pub struct Swept {
 // Examines the node and its siblings after it, at most `most` of them, up to the first that is live.
 pub fn sweep(
     table: &[u8],
-    fill: &[u32],
     start: &[usize],
     level: Level,
     c: usize,
@@ -184,12 +217,13 @@ pub fn sweep(
     last: u32,
     most: u32,
 ) -> Swept
-    requires { ⌜ SweepGiven (now table) (now fill) (now start) level c e v m sets last ⌝ }
+    requires { ⌜ SweepGiven (now table) (now start) level c e v m sets last ⌝ }
     ensures { λ r. ⌜ Sweeps (tableOf (now (table .entry))) sets last most r ⌝ }
 {
     let k = sets.chosen;
     let y = k - 1;
-    let row = level.row;
+    let turning = level.turning;
+    let leaving = level.leaving;
     let fresh = level.fresh;
     let few = level.few;
     let mut set = sets.set;
@@ -197,7 +231,20 @@ pub fn sweep(
     while passed < most {
         let x = set[y];
         passed += 1;
-        if !is_dead(table, fill, start, &row, &fresh, few, c, e, v, m, k, &set) {
+        if !is_dead(
+            table,
+            start,
+            turning,
+            leaving,
+            &fresh,
+            few,
+            c,
+            e,
+            v,
+            m,
+            k,
+            &set,
+        ) {
             return Swept {
                 end: End::Live,
                 passed,

@@ -196,17 +196,14 @@ module _ (s : List ℕ) (c e v m last : ℕ) (given : Given s c e v m last) wher
 
   -- what a sweep from the node asks
   pub given-sweep : (fill mask start : List ℕ) (level : Level) (sets : Sets) → Prepares s fill mask start → SoundAt (tableOf s) (sets .set) (sets .chosen) → Kin (tableOf s) sets
-      → Levels (tableOf s) (take (sets .chosen - 1) (sets .set)) m level → SweepGiven s fill start level c e v m sets last
+      → Levels (tableOf s) (take (sets .chosen - 1) (sets .set)) m level → SweepGiven s start level c e v m sets last
   unfolding Kin SoundAt
   given-sweep fill mask start level sets prepared sound kin levels =
       record {
-        child = λ row-room room. record {
+        child = λ room. record {
           node = given-node sets sound;
-          fills = prepared .fills;
-          fill-room = prepared .fill-room;
           starts = prepared .starts;
           start-room = prepared .start-room;
-          row-room = row-room;
           room = room;
           some = kin .0;
           level = levels;

@@ -116,7 +116,6 @@ fn moved(sets: Sets, x: u32) -> Sets
 // Sweeps over the siblings from the node on, at most `most` of them, and steps on from where that ends.
 fn advance(
     table: &[u8],
-    fill: &[u32],
     start: &[usize],
     level: Level,
     c: usize,
@@ -127,11 +126,11 @@ fn advance(
     last: u32,
     most: u32,
 ) -> Gone
-    requires { ⌜ Given (now table) c e v m last × SweepGiven (now table) (now fill) (now start) level c e v m sets last ⌝ }
+    requires { ⌜ Given (now table) c e v m last × SweepGiven (now table) (now start) level c e v m sets last ⌝ }
     requires { ⌜ Sound (tableOf (now table)) sets × (0 < most) ⌝ }
     ensures { λ r. ⌜ Advances (tableOf (now (table .entry))) v sets most r ⌝ }
 {
-    let swept = level::sweep(table, fill, start, level, c, e, v, m, sets, last, most);
+    let swept = level::sweep(table, start, level, c, e, v, m, sets, last, most);
     let here = moved(sets, swept.at);
     let passed = swept.passed;
     let end = swept.end;
@@ -187,7 +186,7 @@ fn walk_below(
     let mut count: u32 = 1;
     while count < budget {
         let most = budget - count;
-        let step = advance(table, fill, start, level, c, e, v, m, sets, last, most);
+        let step = advance(table, start, level, c, e, v, m, sets, last, most);
         count += step.passed;
         let next = step.sets;
         let going = step.going;

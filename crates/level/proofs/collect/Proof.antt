@@ -71,7 +71,7 @@ loop-again c =
 
 -- src/lib.rt:49:1
 returns : tie.Need-returns Inv-loop μ-loop
-returns c = (refl, listed-whole _ _ _ _ _ (c .before .before .loop .inv .0) (c .before .loop-test .left) (c .before .before .loop .inv .3))
+returns c = (refl, refl, listed-whole _ _ _ _ _ (c .before .loop .inv .0) (c .loop-test .left) (c .before .loop .inv .3))
 
 pub collect-spec : {M : Type 1} → statement M
 collect-spec =

@@ -11,6 +11,7 @@ use Rattle.level.proofs.level_of.Tie as tie
 use Rattle.level.proofs.level_of.Reads as reads
 use Rattle.level.proofs.level_of.Lts as lts
 use Rattle.level.proofs.collect.Reads as collect-reads
+use Rattle.level.proofs.ways_of.Reads as ways-of-reads
 use Rattle.node.proofs.leads_mask.Reads as leads-mask-reads
 use Rattle.node.proofs.settled_mask.Reads as settled-mask-reads
 use Rattle.node.proofs.square_of.Reads as square-of-reads
@@ -51,17 +52,22 @@ add-settled-mask c = search needs
 settled-mask-requires : tie.Need-settled-mask-requires
 settled-mask-requires c κs = (let h = node-few _ _ _ _ _ (c .before .before .before .before .before .before .before .before .args .sets) (c .before .before .before .before .before .before .before .before .pre .0) in omega arith)
 
--- src/lib.rt:78:5
-collect-requires : tie.Need-collect-requires
-collect-requires c κs = (let n : length (c .before .before .before .before .before .before .before .before .before .args .sets .set) ≡ 12 = search needs in few-lines _ _ _ _ _ (c .before .before .before .before .before .before .before .before .before .args .sets) (c .before .before .before .before .before .before .before .before .before .pre .0) (c .before .before .before .before .before .before .before .before .before .pre .2) n _ _ _ (c .before .before .before .before .before .before .before .before .before .pre .1))
+-- src/lib.rt:150:9
+ways-of-requires : tie.Need-ways-of-requires
+ways-of-requires c κs = (let n : length (c .before .before .before .before .before .before .before .before .before .args .sets .set) ≡ 12 = search needs in let h = node-few _ _ _ _ _ (c .before .before .before .before .before .before .before .before .before .args .sets) (c .before .before .before .before .before .before .before .before .before .pre .0) in let q = parent-needs _ _ _ _ _ (c .before .before .before .before .before .before .before .before .before .args .sets) (c .before .before .before .before .before .before .before .before .before .pre .0) (c .before .before .before .before .before .before .before .before .before .pre .2) n _ _ _ (c .before .before .before .before .before .before .before .before .before .pre .1) in (q .0, q .1, omega arith))
 
--- src/lib.rt:67:1
+-- src/lib.rt:151:5
+collect-requires : tie.Need-collect-requires
+collect-requires c κs = (let n : length (c .before .before .before .before .before .before .before .before .before .before .args .sets .set) ≡ 12 = (let g = c .before .before .before .before .before .before .before .before .before .before .good .1 .1 .1 .1 .1 .1 .1 .1 in search (needs, g)) in few-lines _ _ _ _ _ (c .before .before .before .before .before .before .before .before .before .before .args .sets) (c .before .before .before .before .before .before .before .before .before .before .pre .0) (c .before .before .before .before .before .before .before .before .before .before .pre .2) n _ _ _ (c .before .before .before .before .before .before .before .before .before .before .pre .1))
+
+-- src/lib.rt:130:1
 returns : tie.Need-returns
 returns c =
-    (let n : length (c .before .before .before .before .before .before .before .before .before .before .args .sets .set) ≡ 12 = (let g = c .before .before .before .before .before .before .before .before .before .before .good .1 .1 .1 .1 .1 .1 .1 .1 in search (needs, g)) in
-    level-made _ _ _ _ _ (c .before .before .before .before .before .before .before .before .before .before .args .sets) (c .before .before .before .before .before .before .before .before .before .before .pre .0) (c .before .before .before .before .before .before .before .before .before .before .pre .2) n _ _ _ (c .before .before .before .before .before .before .before .before .before .before .pre .1) (c .collect .result) (c .before .before .before .square-of .result .row) _ _ _
-    (c .collect .ensures .0) refl (parent-shows _ _ _ _ _ (c .before .before .before .before .before .before .before .before .before .before .args .sets) (c .before .before .before .before .before .before .before .before .before .before .pre .0) (c .before .before .before .before .before .before .before .before .before .before .pre .2) n _ _ _ (c .before .before .before .before .before .before .before .before .before .before .pre .1) _ _ refl refl (c .before .before .before .square-of .ensures))
-    (c .before .before .leads-mask .ensures) (c .before .settled-mask .ensures) (c .collect .ensures .1))
+    (let n : length (c .before .before .before .before .before .before .before .before .before .before .before .args .sets .set) ≡ 12 = (let g = c .before .before .before .before .before .before .before .before .before .before .before .good .1 .1 .1 .1 .1 .1 .1 .1 in search (needs, g)) in
+    level-made _ _ _ _ _ (c .before .before .before .before .before .before .before .before .before .before .before .args .sets) (c .before .before .before .before .before .before .before .before .before .before .before .pre .0) (c .before .before .before .before .before .before .before .before .before .before .before .pre .2) n _ _ _ (c .before .before .before .before .before .before .before .before .before .before .before .pre .1) (c .before .before .before .before .square-of .result .row)
+    (parent-shows _ _ _ _ _ (c .before .before .before .before .before .before .before .before .before .before .before .args .sets) (c .before .before .before .before .before .before .before .before .before .before .before .pre .0) (c .before .before .before .before .before .before .before .before .before .before .before .pre .2) n _ _ _ (c .before .before .before .before .before .before .before .before .before .before .before .pre .1) _ _ refl refl (c .before .before .before .before .square-of .ensures))
+    (c .collect .result) _ _ _ _ _ (c .collect .ensures .0) (c .collect .ensures .1) refl (c .before .ways-of .ensures .0) (c .before .ways-of .ensures .1)
+    (c .before .before .before .leads-mask .ensures) (c .before .before .settled-mask .ensures) (c .collect .ensures .2))
 
 pub level-of-spec : {M : Type 1} → statement M
 level-of-spec =
@@ -76,5 +82,6 @@ level-of-spec =
     shl-about
     add-settled-mask
     settled-mask-requires
+    ways-of-requires
     collect-requires
     returns)

@@ -7,6 +7,7 @@
 --   half-start, half-more, half-skip, half-whole == the rows one by one
 --   Closing rows j n x after, closing-.. == the same for any dependences, with the rows that stay
 --   closes-start, closes-more, closes-whole == the inner variables one by one
+--   closes-nowhere     == an inner variable that leads nowhere changes nothing
 --   set-node, length-node == the sets of the code as a node
 --   paths-whole        == where the variables below n are all that depend on any, n inner variables are enough
 --   square-shows       == the square shows what each variable reaches
@@ -152,6 +153,12 @@ module _ (d : ℕ → ℕ → Bool) (j : ℕ) where
   unfolding path
   path-next x y = rw add-one refl
 
+  -- no path passes j where j does not lead on
+  path-nowhere : (x y : ℕ) → path d j j y ≡ false → path d (j + 1) x y ≡ path d j x y
+  path-nowhere x y e =
+      path-next x y ∙ ap (λ (p : Bool). path d j x y || (path d j x j && p)) e
+      ∙ ap (λ (p : Bool). path d j x y || p) (and-none (path d j x j)) ∙ or-none (path d j x y)
+
   -- paths into j and out of j need not pass j
   path-into : (x : ℕ) → path d (j + 1) x j ≡ path d j x j
   path-into x = path-next x j ∙ or-absorbs (path d j x j) (path d j j j)
@@ -233,6 +240,12 @@ module _ (rows : List ℕ) (j n : ℕ) where
     unfolding Closing
     closing-skip b = ((λ d g. half-skip d j n after x inside low (f .0 d g) b), f .1)
 
+-- an inner variable that leads nowhere changes nothing
+pub closes-nowhere : (rows : List ℕ) (j n : ℕ) → j < n → rowOf rows j ≡ 0 → Closes rows j (j + 1) n rows
+unfolding Closes Paths
+closes-nowhere rows j n low e =
+    ((λ d f x h y. f x h y ∙ sym (path-nowhere d j x y (sym (f j low y) ∙ ap (bit y) e ∙ bit-none y))), (λ i h. refl))
+
 -- the loop over the inner variables
 module _ (rows : List ℕ) (n : ℕ) where
   pub closes-start : Closes rows 0 0 n rows
@@ -263,9 +276,8 @@ module _ (d : ℕ → ℕ → Bool) where
     path-enough : (i x y : ℕ) → path d (i + n) x y ≡ path d n x y
     path-enough zero x y = ap (λ (k : ℕ). path d k x y) (let z : zero + n ≡ n = omega arith in z)
     path-enough (suc i) x y =
-        ap (λ (k : ℕ). path d k x y) (let z : suc i + n ≡ (i + n) + 1 = omega arith in z) ∙ path-next d (i + n) x y
-        ∙ ap (λ (p : Bool). path d (i + n) x y || (path d (i + n) x (i + n) && p)) (path-none (i + n) (i + n) (λ z. none (i + n) z (omega arith)) y)
-        ∙ ap (λ (p : Bool). path d (i + n) x y || p) (and-none (path d (i + n) x (i + n))) ∙ or-none (path d (i + n) x y)
+        ap (λ (k : ℕ). path d k x y) (let z : suc i + n ≡ (i + n) + 1 = omega arith in z)
+        ∙ path-nowhere d (i + n) x y (path-none (i + n) (i + n) (λ z. none (i + n) z (omega arith)) y)
         ∙ path-enough i x y
 
     pub paths-whole : (v : ℕ) (direct rows : List ℕ) → n ≤ v → Direct d direct → Paths d n n rows

@@ -105,12 +105,15 @@ fn direct_rows(fill: &[u32], c: usize, e: usize, sets: Sets) -> Square
     Square { row }
 }
 
-// One more inner variable, j: where x leads to j, it leads to what j leads to.
+// One more inner variable, j: where x leads to j, it leads to what j leads to. Where j leads nowhere, nothing changes.
 fn close_step(square: Square, n: usize, j: usize) -> Square
     requires { ⌜ (n ≤ 12) × (j < n) ⌝ }
     ensures { λ r. ⌜ Closes (square .row) j (j + 1) n (r .row) ⌝ }
 {
     let mut row = square.row;
+    if row[j] == 0 {
+        return square;
+    }
     let mut x: usize = 0;
     while x < n {
         let own = row[x];

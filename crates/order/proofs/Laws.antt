@@ -6,11 +6,13 @@
 --   set-.., entry-..                    == the set of a filler's, an entry's code, by its kind
 --   constant-kind, flat-kind            == the flat test, by the kinds of the codes
 --   bit-on, bit-off, ..-rest            == what the rest of a set number says of its bits
+--   low-bits                            == the rest modulo 2 ^ c says whether one of the first c bits is set
 --   row-.., atom-.., constant-count     == what the bytes of a row say, and how many atoms there are
---   any-.., all-..                      == a loop over numbers begins, and ends
+--   any-start, any-end, all-end         == a loop over numbers begins, and ends
 --   RowAsk, AtomAsk                     == what is asked of each row, of each atom of the right set
 --   set-constant, set-rows              == a conjunction below a constant, and below a restriction
 --   missing-atoms                       == only the atoms that the left set has not are asked
+--   constants-missing, constants-there  == a missing constant decides, and none is missing
 --   filler-flat, filler-atoms           == a filler below a filler
 --   few-atoms, given                    == what the two questions are given
 --   line-inside, left-.., right-..      == what the bytes of a line say
@@ -27,12 +29,12 @@ use native.Mathlib.Decide.{decLt}
 use lib.Dec.{T, eqb, ltb}
 use lib.ListN.{length, getD}
 use lib.Bits.{bitOr, bitAnd, bitXor}
-use lib.Pow.{pow-lt, shr-shr}
+use lib.Pow.{pow-pos, pow-lt, shr-shr, mod-pow-add}
 use borrow.Author.Tests.{eq-eqb, ne-eqb, lt-ltb, le-ltb}
 use Rattle.el.specs.Description.{sameRole}
 use Rattle.el.specs.OrderLaws.{sameRole-refl}
 use Rattle.el.specs.Test.{anyBelow, allBelow, everyOf, bit}
-use Rattle.el.specs.TestLaws.{and-right, everyOf-at, same-test, false-not, anyBelow-hit, anyBelow-found, anyBelow-none, anyBelow-same, anyBelow-false-at, allBelow-every, allBelow-same, allBelow-true-at}
+use Rattle.el.specs.TestLaws.{is-true, true-is, and-right, everyOf-at, same-test, false-not, anyBelow-hit, anyBelow-found, anyBelow-none, anyBelow-same, anyBelow-false-at, allBelow-every, allBelow-same, allBelow-true-at, allBelow-false-at}
 use Rattle.el.specs.Table.{Filler, topF, constantF, variableF, Entry, constant, restriction, variable, Line, Table, rowAt, atoms, rowDeclared, lineDeclared, declared}
 use Rattle.el.specs.Meaning.{holds}
 use Rattle.el.specs.Assignment.{Assignment, setOf, acyclic, induced}
@@ -177,6 +179,28 @@ pub bit-off : (S j : ℕ) → (S / 2 ^ j % 2 ≡ 1 → ⊥) → bit j S ≡ fals
 unfolding bit
 bit-off S j e = ne-eqb (S / 2 ^ j % 2) 1 e
 
+or-no : (x : Bool) → x || false ≡ x
+or-no true = refl
+or-no false = refl
+
+or-yes : (x : Bool) → x || true ≡ true
+or-yes true = refl
+or-yes false = refl
+
+-- a number whose next digit is d, its first ones r
+digit-any : (d p r : ℕ) → d < 2 → 0 < p → not (eqb (d * p + r) 0) ≡ not (eqb r 0) || eqb d 1
+digit-any zero p r h k = ap (λ (n : ℕ). not (eqb n 0)) (let z : zero * p + r ≡ r = omega arith in z) ∙ sym (or-no (not (eqb r 0)))
+digit-any (suc zero) p r h k = ap not (ne-eqb (suc zero * p + r) 0 (λ z. omega arith)) ∙ sym (or-yes (not (eqb r 0)))
+digit-any (suc (suc d)) p r h k = absurd (let z : ⊥ = omega arith in z)
+
+pub low-bits : (c S : ℕ) → not (eqb (S % 2 ^ c) 0) ≡ anyBelow c (λ j. bit j S)
+unfolding anyBelow bit
+low-bits zero S = ap (λ (n : ℕ). not (eqb n 0)) (let z : S % 1 ≡ 0 = omega arith in z)
+low-bits (suc c) S =
+    ap (λ (n : ℕ). not (eqb (S % 2 ^ n) 0)) (let z : suc c ≡ 1 + c = omega arith in z)
+    ∙ ap (λ (n : ℕ). not (eqb n 0)) (mod-pow-add S 1 c) ∙ digit-any (S / 2 ^ c % 2) (2 ^ c) (S % 2 ^ c) (omega arith) (pow-pos c)
+    ∙ ap (λ b. b || eqb (S / 2 ^ c % 2) 1) (low-bits c S)
+
 ----------------------------------------------------------------------------------------------------
 -- What the bytes of a row say
 
@@ -262,10 +286,6 @@ any-start p = refl
 
 pub any-end : (n i : ℕ) (p : ℕ → Bool) → n ≤ i → i ≤ n → anyBelow i p ≡ false → anyBelow n p ≡ false
 any-end n i p h l e = let q : n ≡ i = omega arith in rw q e
-
-pub all-start : (p : ℕ → Bool) → allBelow 0 p ≡ true
-unfolding allBelow
-all-start p = refl
 
 pub all-end : (n i : ℕ) (p : ℕ → Bool) → n ≤ i → i ≤ n → allBelow i p ≡ true → allBelow n p ≡ true
 all-end n i p h l e = let q : n ≡ i = omega arith in rw q e
@@ -355,10 +375,6 @@ module _ (s : List ℕ) (a : Assignment) (c e : ℕ) (g : Given s a c e) (d S j 
 unfoldable pub AtomAsk : List ℕ → Assignment → ℕ → ℕ → ℕ → ℕ → Bool
 AtomAsk s a d L R j = not (bit j R) || setBelow s a d L j
 
-or-yes : (x : Bool) → x || true ≡ true
-or-yes true = refl
-or-yes false = refl
-
 module _ (s : List ℕ) (a : Assignment) (d L R j : ℕ) where
   pub atom-off : bit j R ≡ false → AtomAsk s a d L R j ≡ true
   unfolding AtomAsk
@@ -398,6 +414,24 @@ missing-atoms s a c e q d L R =
     itself j h b =
         unfold setBelow in
         set-itself sameRole (tableOf s) (layout s (q .readable) .all-declared) a sameRole-refl d L j (subst (λ (n : ℕ). j < n) (sym (atom-count s a c e q)) h) b
+
+-- a constant is asked by its bit alone: one that is missing decides, and where none is, the restrictions are left
+pub constants-missing : (s : List ℕ) (a : Assignment) (c e : ℕ) → Given s a c e → (d L R : ℕ)
+    → anyBelow c (λ j. bit j (bitXor R (bitAnd R L))) ≡ true → allBelow (c + e) (AtomAsk s a d L (bitXor R (bitAnd R L))) ≡ false
+constants-missing s a c e q d L R t =
+    let r = anyBelow-found c (λ j. bit j (bitXor R (bitAnd R L))) (true-is (anyBelow c (λ j. bit j (bitXor R (bitAnd R L)))) t) in
+    let h : r .0 < c = r .1 in
+    let b : bit (r .0) (bitXor R (bitAnd R L)) ≡ true = is-true (bit (r .0) (bitXor R (bitAnd R L))) (r .2) in
+    allBelow-false-at (c + e) (r .0) (AtomAsk s a d L (bitXor R (bitAnd R L))) (omega arith)
+    (atom-false s a d L (bitXor R (bitAnd R L)) (r .0) b
+    (sym (set-constant s a c e q d L (r .0) h) ∙ lacks (bit (r .0) R) (bit (r .0) L) (sym (bit-missing (r .0) L R) ∙ b)))
+  where
+    lacks : (x y : Bool) → x && not y ≡ true → y ≡ false
+    lacks x false h = refl
+    lacks x true h = sym h ∙ and-no x
+
+pub constants-there : (s : List ℕ) (a : Assignment) (c d L M : ℕ) → anyBelow c (λ j. bit j M) ≡ false → allBelow c (AtomAsk s a d L M) ≡ true
+constants-there s a c d L M t = allBelow-every c (AtomAsk s a d L M) (λ j h. atom-off s a d L M j (anyBelow-false-at c j (λ i. bit i M) t h))
 
 pub filler-flat : (s : List ℕ) (a : Assignment) (d f g : ℕ) → d ≡ 0 → flatTest (fillerFrom f) (fillerFrom g) ≡ fillerBelow s a d f g
 unfolding fillerBelow fillerTest

@@ -7,7 +7,7 @@ use table::Kind;
 ghost use mathlib.Core.Path.{_≡_};
 ghost use Prim.Native.Nat.{_+_, _<_};
 ghost use Rattle.el.specs.Description.{sameRole};
-ghost use Rattle.el.specs.Test.{bit};
+ghost use Rattle.el.specs.Test.{anyBelow, bit};
 ghost use Rattle.el.specs.Assignment.{induced};
 ghost use Rattle.el.specs.Meaning.{holds};
 ghost use Rattle.table.specs.Reading.{byteAt, tableOf};
@@ -30,6 +30,14 @@ pub fn bit_of(s: u32, i: usize) -> bool
     ensures { λ r. ⌜ r ≡ bit i s ⌝ }
 {
     (s >> i) % 2 == 1
+}
+
+// One of the first c atoms, the constants, is missing.
+fn lacks_constant(missing: u32, c: usize) -> bool
+    requires { ⌜ c < 32 ⌝ }
+    ensures { λ r. ⌜ r ≡ anyBelow c (λ j. bit j missing) ⌝ }
+{
+    missing % (1u32 << c) != 0
 }
 
 // The set of a filler: top has no conjunct, a constant is one.
@@ -116,7 +124,7 @@ fn set_below(table: &[u8], set: &[u32], c: usize, e: usize, s: u32, j: usize, de
 }
 
 // Filler f lies below filler g: the conjunction of f's set lies below each atom of g's. An atom that both sets have lies
-// below itself, so only the missing ones are asked.
+// below itself, so only the missing ones are asked: a constant decides at once, so restrictions are left.
 fn filler_below(table: &[u8], set: &[u32], c: usize, e: usize, f: u8, g: u8, depth: usize) -> bool
     requires { ⌜ Given (now table) (now set) c e × IsFiller (now table) f × IsFiller (now table) g ⌝ }
     ensures { λ r. ⌜ r ≡ fillerBelow (now (table .entry)) (now (set .entry)) depth f g ⌝ }
@@ -127,7 +135,10 @@ fn filler_below(table: &[u8], set: &[u32], c: usize, e: usize, f: u8, g: u8, dep
     let left = filler_set(table, set, c, e, f);
     let right = filler_set(table, set, c, e, g);
     let missing = right ^ (right & left);
-    let mut j = 0;
+    if lacks_constant(missing, c) {
+        return false;
+    }
+    let mut j = c;
     while j < c + e {
         let rest = missing >> j;
         if rest == 0 {
@@ -175,7 +186,10 @@ pub fn line_holds(
     let left = left_set(table, set, c, e, n, at);
     let right = entry_set(table, set, c, e, table[at + 1 + p]);
     let missing = right ^ (right & left);
-    let mut j = 0;
+    if lacks_constant(missing, c) {
+        return false;
+    }
+    let mut j = c;
     while j < c + e {
         let rest = missing >> j;
         if rest == 0 {

@@ -1,5 +1,5 @@
 -- The two questions meet their contracts. The measure is twice the dependences left, one more for the conjunction's question.
--- The loop of `set_below`: no row passed so far lies below the atom; of `filler_below`: each missing atom passed so far has the left set below it.
+-- The loop of `set_below`: no row passed so far lies below the atom; of `filler_below`: each missing atom passed so far has the left set below it, and it begins after the constants, of which none is missing.
 use mathlib.Core.Path.{_≡_, sym, _∙_}
 use mathlib.Core.Bool.{true, false}
 use mathlib.Core.Logic.{⊎-elim}
@@ -9,7 +9,7 @@ use borrow.Author.Needs.{needs}
 use borrow.Author.Tests.{not-true, not-false}
 use Rattle.el.specs.Test.{anyBelow, allBelow}
 use Rattle.el.specs.TestLaws.{anyBelow-step, anyBelow-true-at, allBelow-step, allBelow-false-at}
-use Rattle.order.proofs.Laws.{bit-on, bit-off, any-start, any-end, all-start, all-end, row-filler, atom-filler-code, RowAsk, row-off, row-other, row-false, row-true, rows-rest, set-constant, set-rows, AtomAsk, atom-off, atom-true, atom-false, atoms-rest, filler-flat, filler-atoms}
+use Rattle.order.proofs.Laws.{bit-on, bit-off, any-start, any-end, all-end, row-filler, atom-filler-code, RowAsk, row-off, row-other, row-false, row-true, rows-rest, set-constant, set-rows, AtomAsk, atom-off, atom-true, atom-false, atoms-rest, constants-missing, constants-there, filler-flat, filler-atoms}
 use borrow.Fn.Kinds.{In}
 use borrow.Fn.PlainCycle.{Measures, is, falls, and}
 use Rattle.order.proofs.filler_below.Reads as filler-below
@@ -21,6 +21,7 @@ use Rattle.order.proofs.+filler_below+set_below.Lts-set_below as set-be
 use Rattle.order.proofs.bit_of.Reads as bit-of-reads
 use Rattle.order.proofs.filler_set.Reads as filler-set-reads
 use Rattle.order.proofs.flat_below.Reads as flat-below-reads
+use Rattle.order.proofs.lacks_constant.Reads as lacks-constant-reads
 use Rattle.order.proofs.+filler_below+set_below.{statement}
 use Rattle.order.proofs.+filler_below+set_below.Tie.{close}
 
@@ -60,6 +61,8 @@ filler-below-flat-below-requires : (t : ℕ) → filler-below-lts.Need-flat-belo
   flat-below-reads.Learnt,
   filler-set-reads.Asked,
   filler-set-reads.Learnt,
+  lacks-constant-reads.Asked,
+  lacks-constant-reads.Learnt,
   set-below-below t,
   set-below.Post,
 ) (filler-below-at t) filler-below.Post filler-below-Inv-loop filler-below-μ-loop
@@ -70,6 +73,8 @@ filler-below-returns : (t : ℕ) → filler-below-lts.Need-returns (
   flat-below-reads.Learnt,
   filler-set-reads.Asked,
   filler-set-reads.Learnt,
+  lacks-constant-reads.Asked,
+  lacks-constant-reads.Learnt,
   set-below-below t,
   set-below.Post,
 ) (filler-below-at t) filler-below.Post filler-below-Inv-loop filler-below-μ-loop
@@ -80,6 +85,8 @@ filler-below-filler-set-requires : (t : ℕ) → filler-below-lts.Need-filler-se
   flat-below-reads.Learnt,
   filler-set-reads.Asked,
   filler-set-reads.Learnt,
+  lacks-constant-reads.Asked,
+  lacks-constant-reads.Learnt,
   set-below-below t,
   set-below.Post,
 ) (filler-below-at t) filler-below.Post filler-below-Inv-loop filler-below-μ-loop
@@ -90,26 +97,56 @@ filler-below-filler-set-requires-2 : (t : ℕ) → filler-below-lts.Need-filler-
   flat-below-reads.Learnt,
   filler-set-reads.Asked,
   filler-set-reads.Learnt,
+  lacks-constant-reads.Asked,
+  lacks-constant-reads.Learnt,
   set-below-below t,
   set-below.Post,
 ) (filler-below-at t) filler-below.Post filler-below-Inv-loop filler-below-μ-loop
 filler-below-filler-set-requires-2 t c κs = (c .before .before .before .before .pre .1 .0, c .before .before .before .before .pre .1 .2)
+
+filler-below-lacks-constant-requires : (t : ℕ) → filler-below-lts.Need-lacks-constant-requires (
+  flat-below-reads.Asked,
+  flat-below-reads.Learnt,
+  filler-set-reads.Asked,
+  filler-set-reads.Learnt,
+  lacks-constant-reads.Asked,
+  lacks-constant-reads.Learnt,
+  set-below-below t,
+  set-below.Post,
+) (filler-below-at t) filler-below.Post filler-below-Inv-loop filler-below-μ-loop
+filler-below-lacks-constant-requires t c κs = omega arith
+
+filler-below-returns-2 : (t : ℕ) → filler-below-lts.Need-returns-2 (
+  flat-below-reads.Asked,
+  flat-below-reads.Learnt,
+  filler-set-reads.Asked,
+  filler-set-reads.Learnt,
+  lacks-constant-reads.Asked,
+  lacks-constant-reads.Learnt,
+  set-below-below t,
+  set-below.Post,
+) (filler-below-at t) filler-below.Post filler-below-Inv-loop filler-below-μ-loop
+filler-below-returns-2 t c = sym (filler-atoms _ _ _ _ (c .before .before .before .before .before .before .before .pre .1 .0) _ _ _ _ _ (c .before .before .before .before .if1 .left) (c .before .before .before .filler-set .ensures) (c .before .before .filler-set2 .ensures) ∙ constants-missing _ _ _ _ (c .before .before .before .before .before .before .before .pre .1 .0) _ _ (c .before .before .filler-set2 .result) (sym (c .before .lacks-constant .ensures) ∙ c .if2 .taken))
 
 filler-below-loop-holds : (t : ℕ) → filler-below-lts.Need-loop-holds (
   flat-below-reads.Asked,
   flat-below-reads.Learnt,
   filler-set-reads.Asked,
   filler-set-reads.Learnt,
+  lacks-constant-reads.Asked,
+  lacks-constant-reads.Learnt,
   set-below-below t,
   set-below.Post,
 ) (filler-below-at t) filler-below.Post filler-below-Inv-loop filler-below-μ-loop
-filler-below-loop-holds t c = (omega arith, all-start _)
+filler-below-loop-holds t c = (omega arith, constants-there _ _ _ _ _ _ (sym (c .before .lacks-constant .ensures) ∙ c .if2 .left))
 
 filler-below-add-loop : (t : ℕ) → filler-below-lts.Need-add-loop (
   flat-below-reads.Asked,
   flat-below-reads.Learnt,
   filler-set-reads.Asked,
   filler-set-reads.Learnt,
+  lacks-constant-reads.Asked,
+  lacks-constant-reads.Learnt,
   set-below-below t,
   set-below.Post,
 ) (filler-below-at t) filler-below.Post filler-below-Inv-loop filler-below-μ-loop
@@ -120,6 +157,8 @@ filler-below-cast-rest : (t : ℕ) → filler-below-lts.Need-cast-rest (
   flat-below-reads.Learnt,
   filler-set-reads.Asked,
   filler-set-reads.Learnt,
+  lacks-constant-reads.Asked,
+  lacks-constant-reads.Learnt,
   set-below-below t,
   set-below.Post,
 ) (filler-below-at t) filler-below.Post filler-below-Inv-loop filler-below-μ-loop
@@ -130,26 +169,32 @@ filler-below-shr-rest : (t : ℕ) → filler-below-lts.Need-shr-rest (
   flat-below-reads.Learnt,
   filler-set-reads.Asked,
   filler-set-reads.Learnt,
+  lacks-constant-reads.Asked,
+  lacks-constant-reads.Learnt,
   set-below-below t,
   set-below.Post,
 ) (filler-below-at t) filler-below.Post filler-below-Inv-loop filler-below-μ-loop
 filler-below-shr-rest t c = omega arith
 
-filler-below-returns-2 : (t : ℕ) → filler-below-lts.Need-returns-2 (
+filler-below-returns-3 : (t : ℕ) → filler-below-lts.Need-returns-3 (
   flat-below-reads.Asked,
   flat-below-reads.Learnt,
   filler-set-reads.Asked,
   filler-set-reads.Learnt,
+  lacks-constant-reads.Asked,
+  lacks-constant-reads.Learnt,
   set-below-below t,
   set-below.Post,
 ) (filler-below-at t) filler-below.Post filler-below-Inv-loop filler-below-μ-loop
-filler-below-returns-2 t c = sym (filler-atoms _ _ _ _ (c .before .before .before .before .before .before .before .before .pre .1 .0) _ _ _ _ _ (c .before .before .before .before .before .if1 .left) (c .before .before .before .before .filler-set .ensures) (c .before .before .before .filler-set2 .ensures) ∙ atoms-rest _ _ _ _ _ _ _ (c .before .before .loop .inv .1) (c .if2 .taken))
+filler-below-returns-3 t c = sym (filler-atoms _ _ _ _ (c .before .before .before .before .before .before .before .before .before .before .pre .1 .0) _ _ _ _ _ (c .before .before .before .before .before .before .before .if1 .left) (c .before .before .before .before .before .before .filler-set .ensures) (c .before .before .before .before .before .filler-set2 .ensures) ∙ atoms-rest _ _ _ _ _ _ _ (c .before .before .loop .inv .1) (c .if3 .taken))
 
 filler-below-sub-set-below : (t : ℕ) → filler-below-lts.Need-sub-set-below (
   flat-below-reads.Asked,
   flat-below-reads.Learnt,
   filler-set-reads.Asked,
   filler-set-reads.Learnt,
+  lacks-constant-reads.Asked,
+  lacks-constant-reads.Learnt,
   set-below-below t,
   set-below.Post,
 ) (filler-below-at t) filler-below.Post filler-below-Inv-loop filler-below-μ-loop
@@ -160,26 +205,32 @@ filler-below-set-below-requires : (t : ℕ) → filler-below-lts.Need-set-below-
   flat-below-reads.Learnt,
   filler-set-reads.Asked,
   filler-set-reads.Learnt,
+  lacks-constant-reads.Asked,
+  lacks-constant-reads.Learnt,
   set-below-below t,
   set-below.Post,
 ) (filler-below-at t) filler-below.Post filler-below-Inv-loop filler-below-μ-loop
-filler-below-set-below-requires t c κs = (omega arith, (c .before .before .before .before .before .before .before .before .before .pre .1 .0, omega arith))
+filler-below-set-below-requires t c κs = (omega arith, (c .before .before .before .before .before .before .before .before .before .before .before .pre .1 .0, omega arith))
 
-filler-below-returns-3 : (t : ℕ) → filler-below-lts.Need-returns-3 (
+filler-below-returns-4 : (t : ℕ) → filler-below-lts.Need-returns-4 (
   flat-below-reads.Asked,
   flat-below-reads.Learnt,
   filler-set-reads.Asked,
   filler-set-reads.Learnt,
+  lacks-constant-reads.Asked,
+  lacks-constant-reads.Learnt,
   set-below-below t,
   set-below.Post,
 ) (filler-below-at t) filler-below.Post filler-below-Inv-loop filler-below-μ-loop
-filler-below-returns-3 t c = sym (filler-atoms _ _ _ _ (c .before .before .before .before .before .before .before .before .before .before .before .pre .1 .0) _ _ _ _ _ (c .before .before .before .before .before .before .before .before .if1 .left) (c .before .before .before .before .before .before .before .filler-set .ensures) (c .before .before .before .before .before .before .filler-set2 .ensures) ∙ allBelow-false-at _ _ _ (c .before .before .before .before .loop-test .taken) (atom-false _ _ _ _ _ _ (bit-on _ _ (c .before .before .if3 .taken)) (sym (c .before .set-below .ensures) ∙ not-true _ (c .if4 .taken))))
+filler-below-returns-4 t c = sym (filler-atoms _ _ _ _ (c .before .before .before .before .before .before .before .before .before .before .before .before .before .pre .1 .0) _ _ _ _ _ (c .before .before .before .before .before .before .before .before .before .before .if1 .left) (c .before .before .before .before .before .before .before .before .before .filler-set .ensures) (c .before .before .before .before .before .before .before .before .filler-set2 .ensures) ∙ allBelow-false-at _ _ _ (c .before .before .before .before .loop-test .taken) (atom-false _ _ _ _ _ _ (bit-on _ _ (c .before .before .if4 .taken)) (sym (c .before .set-below .ensures) ∙ not-true _ (c .if5 .taken))))
 
 filler-below-add-j : (t : ℕ) → filler-below-lts.Need-add-j (
   flat-below-reads.Asked,
   flat-below-reads.Learnt,
   filler-set-reads.Asked,
   filler-set-reads.Learnt,
+  lacks-constant-reads.Asked,
+  lacks-constant-reads.Learnt,
   set-below-below t,
   set-below.Post,
 ) (filler-below-at t) filler-below.Post filler-below-Inv-loop filler-below-μ-loop
@@ -190,6 +241,8 @@ filler-below-loop-less : (t : ℕ) → filler-below-lts.Need-loop-less (
   flat-below-reads.Learnt,
   filler-set-reads.Asked,
   filler-set-reads.Learnt,
+  lacks-constant-reads.Asked,
+  lacks-constant-reads.Learnt,
   set-below-below t,
   set-below.Post,
 ) (filler-below-at t) filler-below.Post filler-below-Inv-loop filler-below-μ-loop
@@ -200,6 +253,8 @@ filler-below-loop-again : (t : ℕ) → filler-below-lts.Need-loop-again (
   flat-below-reads.Learnt,
   filler-set-reads.Asked,
   filler-set-reads.Learnt,
+  lacks-constant-reads.Asked,
+  lacks-constant-reads.Learnt,
   set-below-below t,
   set-below.Post,
 ) (filler-below-at t) filler-below.Post filler-below-Inv-loop filler-below-μ-loop
@@ -207,18 +262,20 @@ filler-below-loop-again t c = (
   omega arith,
   allBelow-step _ _ (c .before .before .before .loop .inv .1)
       (⊎-elim (λ w. atom-true _ _ _ _ _ _ (sym (w .1 .ensures) ∙ not-false _ (w .2 .left)))
-      (λ w. atom-off _ _ _ _ _ _ (bit-off _ _ (w .left))) (c .if3 .came)),
+      (λ w. atom-off _ _ _ _ _ _ (bit-off _ _ (w .left))) (c .if4 .came)),
 )
 
-filler-below-returns-4 : (t : ℕ) → filler-below-lts.Need-returns-4 (
+filler-below-returns-5 : (t : ℕ) → filler-below-lts.Need-returns-5 (
   flat-below-reads.Asked,
   flat-below-reads.Learnt,
   filler-set-reads.Asked,
   filler-set-reads.Learnt,
+  lacks-constant-reads.Asked,
+  lacks-constant-reads.Learnt,
   set-below-below t,
   set-below.Post,
 ) (filler-below-at t) filler-below.Post filler-below-Inv-loop filler-below-μ-loop
-filler-below-returns-4 t c = sym (filler-atoms _ _ _ _ (c .before .before .before .before .before .before .before .pre .1 .0) _ _ _ _ _ (c .before .before .before .before .if1 .left) (c .before .before .before .filler-set .ensures) (c .before .before .filler-set2 .ensures) ∙ all-end _ _ _ (c .loop-test .left) (c .before .loop .inv .0) (c .before .loop .inv .1))
+filler-below-returns-5 t c = sym (filler-atoms _ _ _ _ (c .before .before .before .before .before .before .before .before .before .pre .1 .0) _ _ _ _ _ (c .before .before .before .before .before .before .if1 .left) (c .before .before .before .before .before .filler-set .ensures) (c .before .before .before .before .filler-set2 .ensures) ∙ all-end _ _ _ (c .loop-test .left) (c .before .loop .inv .0) (c .before .loop .inv .1))
 
 abbrev set-below-Inv-loop : set-below-lts.InvT-loop
 set-below-Inv-loop table set c e s j depth at role filler k₀ k = (k ≤ e) × (anyBelow k (RowAsk table set c depth s role filler) ≡ false)
@@ -441,6 +498,8 @@ pub +filler-below+set-below-spec : {M : Type 1} → statement M
   flat-below-reads.Learnt,
   filler-set-reads.Asked,
   filler-set-reads.Learnt,
+  lacks-constant-reads.Asked,
+  lacks-constant-reads.Learnt,
   set-below-below t,
   set-below.Post,
 )
@@ -452,18 +511,20 @@ pub +filler-below+set-below-spec : {M : Type 1} → statement M
     (filler-below-returns t)
     (filler-below-filler-set-requires t)
     (filler-below-filler-set-requires-2 t)
+    (filler-below-lacks-constant-requires t)
+    (filler-below-returns-2 t)
     (filler-below-loop-holds t)
     (filler-below-add-loop t)
     (filler-below-cast-rest t)
     (filler-below-shr-rest t)
-    (filler-below-returns-2 t)
+    (filler-below-returns-3 t)
     (filler-below-sub-set-below t)
     (filler-below-set-below-requires t)
-    (filler-below-returns-3 t)
+    (filler-below-returns-4 t)
     (filler-below-add-j t)
     (filler-below-loop-less t)
     (filler-below-loop-again t)
-    (filler-below-returns-4 t))
+    (filler-below-returns-5 t))
     λ t. set-below-lts.spec
     (bit-of-reads.Asked, bit-of-reads.Learnt, filler-below-below t, filler-below.Post)
     (set-below-at t)

@@ -1,0 +1,22 @@
+-- `order::lacks_constant` asks for one of the first c bits: the rest modulo 2 ^ c is not 0.
+use borrow.Author.Needs.{needs}
+use lib.Pow.{pow-pos}
+use native.Mathlib.Omega.{arith}
+use Rattle.order.proofs.Laws.{power-fits, low-bits}
+use Rattle.order.proofs.lacks_constant.Statement.{statement}
+use Rattle.order.proofs.lacks_constant.Tie as tie
+
+cast-result : tie.Need-cast-result
+cast-result c = search needs
+
+shl-result : tie.Need-shl-result
+shl-result c = search needs
+
+rem-result : tie.Need-rem-result
+rem-result c = rw (power-fits (c .args .c) (omega arith)) (pow-pos _)
+
+returns : tie.Need-returns
+returns c = rw (power-fits (c .args .c) (omega arith)) (low-bits _ _)
+
+pub lacks-constant-spec : {M : Type 1} → statement M
+lacks-constant-spec = tie.close (tie.spec cast-result shl-result rem-result returns)

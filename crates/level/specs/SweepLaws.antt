@@ -1,5 +1,7 @@
 -- Laws of a sweep over siblings. The first of them is the node of the first k sets of the list a.
 --
+--   child-place    == where a child's newest set stands
+--   child-turns, child-leaves, child-lines, child-fails == the test of a child, for each of its ends
 --   child-sibling  == a sibling is a child of the same node
 --   At t a k last passed set == so many siblings are passed, all dead, and `set` holds the next
 --   at-start, at-next == the loop of the sweep
@@ -12,16 +14,18 @@ use Prim.Native.Nat.{ℕ, zero, suc, _+_, _-_, _≤_, _<_}
 use native.Mathlib.Omega.{arith}
 use native.Mathlib.Decide.{ℕ-discrete}
 use native.Mathlib.Nat.{add-zero}
+use lib.Bits.{bitAnd}
 use lib.ListN.{length, getD, take, set, length-set}
 use lib.Seq.{take-set-le, getD-set-same, getD-set-other, set-getD, set-set}
 use Rattle.el.specs.Description.{sameRole}
 use Rattle.el.specs.Table.{Table}
 use Rattle.el.specs.Walk.{Node, dead}
 use Rattle.table.specs.Reading.{tableOf}
-use Rattle.node.specs.Node.{Clean, NodeGiven}
+use Rattle.node.specs.Node.{nodeOf, Clean, NodeGiven}
 use Rattle.node.specs.NodeTestLaws.{node-few}
 use Rattle.level.specs.declared.End.the-variants.{Live, Over, Spent}
-use Rattle.level.specs.Level.{Levels, setsOf, levelOf, ChildGiven, siblingOf, ownOf, deadSibling, Passes, Sweeps}
+use Rattle.level.specs.LevelLaws.{dead-cycle, dead-open, below-given, dead-fresh}
+use Rattle.level.specs.Level.{Levels, setsOf, levelOf, FreshGiven, freshFails, ChildGiven, siblingOf, ownOf, deadSibling, Passes, Sweeps}
 
 child-sibling : (s start : List ℕ) (turning leaving : ℕ) (fresh : List ℕ) (few c e v m k : ℕ) (a : List ℕ) (x : ℕ)
     → ChildGiven s start turning leaving fresh few c e v m k a → ChildGiven s start turning leaving fresh few c e v m k (set a (k - 1) x)
@@ -58,26 +62,47 @@ pub record At (t : Table) (a : List ℕ) (k last passed : ℕ) (here : List ℕ)
   pub within : ownOf (setsOf a k) + passed ≤ last
   pub dead-all : Passes t (setsOf a k) passed
 
-pub at-start : (t : Table) (a : List ℕ) (k last : ℕ) → ownOf (setsOf a k) ≤ last → At t a k last 0 a
-at-start t a k last h =
+pub at-start : {t : Table} {a : List ℕ} {k last : ℕ} → ownOf (setsOf a k) ≤ last → At t a k last 0 a
+at-start {t} {a} {k} {last} h =
     record {
       is = sym (ap (set a (k - 1)) (add-zero (getD a (k - 1) 0)) ∙ set-getD a (k - 1) 0);
       within = omega arith;
       dead-all = unfold Passes in λ j l. absurd (let z : ⊥ = omega arith in z);
     }
 
-module _ (s start : List ℕ) (turning leaving : ℕ) (fresh : List ℕ) (few c e v m k : ℕ) (a : List ℕ) (given : ChildGiven s start turning leaving fresh few c e v m k a) (last passed : ℕ) (here : List ℕ) (at : At (tableOf s) a k last passed here) where
+-- a child as the code tests it
+module _ {s start : List ℕ} {turning leaving : ℕ} {fresh : List ℕ} {few c e v m k : ℕ} {a : List ℕ} (given : ChildGiven s start turning leaving fresh few c e v m k a) where
+  pub child-place : (0 < k) × (k ≤ 12)
+  child-place = (given .some, node-few s c e v m (setsOf a k) (given .node))
+
+  pub child-turns : (bitAnd (ownOf (setsOf a k)) turning ≡ 0 → ⊥) → true ≡ dead sameRole (tableOf s) (take k a)
+  unfolding nodeOf
+  child-turns = dead-cycle s c e v m (setsOf a k) (given .node) (given .some) (given .room) start (given .starts) (given .start-room) (levelOf turning leaving fresh few) (given .level) (given .live)
+
+  pub child-leaves : bitAnd (ownOf (setsOf a k)) turning ≡ 0 → (bitAnd (ownOf (setsOf a k)) leaving ≡ 0 → ⊥) → false ≡ dead sameRole (tableOf s) (take k a)
+  unfolding nodeOf
+  child-leaves = dead-open s c e v m (setsOf a k) (given .node) (given .some) (given .room) start (given .starts) (given .start-room) (levelOf turning leaving fresh few) (given .level) (given .live)
+
+  pub child-lines : bitAnd (ownOf (setsOf a k)) turning ≡ 0 → bitAnd (ownOf (setsOf a k)) leaving ≡ 0 → FreshGiven s start c e v fresh few a
+  child-lines = below-given s c e v m (setsOf a k) (given .node) (given .some) (given .room) start (given .starts) (given .start-room) (levelOf turning leaving fresh few) (given .level) (given .live)
+
+  pub child-fails : bitAnd (ownOf (setsOf a k)) turning ≡ 0 → bitAnd (ownOf (setsOf a k)) leaving ≡ 0 → freshFails s a fresh few ≡ dead sameRole (tableOf s) (take k a)
+  unfolding nodeOf
+  child-fails = dead-fresh s c e v m (setsOf a k) (given .node) (given .some) (given .room) start (given .starts) (given .start-room) (levelOf turning leaving fresh few) (given .level) (given .live)
+
+module _ {s start : List ℕ} {turning leaving : ℕ} {fresh : List ℕ} {few c e v m k : ℕ} {a : List ℕ} (given : ChildGiven s start turning leaving fresh few c e v m k a)
+    {last passed : ℕ} {here : List ℕ} (at : At (tableOf s) a k last passed here) where
   pub at-child : ChildGiven s start turning leaving fresh few c e v m k here
   at-child = subst (ChildGiven s start turning leaving fresh few c e v m k) (sym (at .is)) (child-sibling s start turning leaving fresh few c e v m k a (ownOf (setsOf a k) + passed) given)
 
   fits : k - 1 < length a
-  fits = let z : 0 < k = given .some in let r : length a ≡ 12 = given .room in let h : k ≤ 12 = node-few s c e v m (setsOf a k) (given .node) in omega arith
+  fits = let h = child-place given in let r : length a ≡ 12 = given .room in omega arith
 
   -- the set at hand
   own-here : getD here (k - 1) 0 ≡ ownOf (setsOf a k) + passed
   own-here = ap (λ (l : List ℕ). getD l (k - 1) 0) (at .is) ∙ getD-set-same a (k - 1) (ownOf (setsOf a k) + passed) 0 fits
 
-  module _ (x : ℕ) (reads : x ≡ getD here (k - 1) 0) where
+  module _ {x : ℕ} (reads : x ≡ getD here (k - 1) 0) where
     x-is : x ≡ ownOf (setsOf a k) + passed
     x-is = reads ∙ own-here
 
@@ -87,22 +112,22 @@ module _ (s start : List ℕ) (turning leaving : ℕ) (fresh : List ℕ) (few c 
     answer-is : (b r : Bool) → b ≡ dead sameRole (tableOf s) (take k here) → b ≡ r → deadSibling (tableOf s) (setsOf a k) x ≡ r
     answer-is b r e f = unfold deadSibling in (ap (dead sameRole (tableOf s)) (sym sibling-is) ∙ sym e ∙ f)
 
-    pub swept-live : (most : ℕ) (b : Bool) → passed < most → b ≡ dead sameRole (tableOf s) (take k here) → b ≡ false
+    pub swept-live : {most : ℕ} {b : Bool} → passed < most → b ≡ dead sameRole (tableOf s) (take k here) → b ≡ false
         → Sweeps (tableOf s) (setsOf a k) last most (record { end = Live; passed = passed + 1; at = x })
-    swept-live most b h e f =
+    swept-live {most} {b} h e f =
         record { few = omega arith; within = let w : ownOf (setsOf a k) + passed ≤ last = at .within in let q = x-is in omega arith; ends = (passed, refl, x-is, at .dead-all, answer-is b false e f) }
 
-    pub swept-over : (most : ℕ) (b : Bool) → passed < most → b ≡ dead sameRole (tableOf s) (take k here) → b ≡ true → last ≤ x
+    pub swept-over : {most : ℕ} {b : Bool} → passed < most → b ≡ dead sameRole (tableOf s) (take k here) → b ≡ true → last ≤ x
         → Sweeps (tableOf s) (setsOf a k) last most (record { end = Over; passed = passed + 1; at = x })
-    swept-over most b h e f l =
+    swept-over {most} {b} h e f l =
         record { few = omega arith; within = let w : ownOf (setsOf a k) + passed ≤ last = at .within in let q = x-is in omega arith; ends = (passed, refl, x-is, at .dead-all, answer-is b true e f, l) }
 
-    pub swept-spent : (most : ℕ) → passed ≤ most → most ≤ passed → Sweeps (tableOf s) (setsOf a k) last most (record { end = Spent; passed = passed; at = x })
-    swept-spent most h l =
+    pub swept-spent : {most : ℕ} → passed ≤ most → most ≤ passed → Sweeps (tableOf s) (setsOf a k) last most (record { end = Spent; passed = passed; at = x })
+    swept-spent h l =
         record { few = h; within = let w : ownOf (setsOf a k) + passed ≤ last = at .within in let q = x-is in omega arith; ends = (omega arith, x-is, at .dead-all) }
 
-    pub at-next : (b : Bool) → b ≡ dead sameRole (tableOf s) (take k here) → b ≡ true → x < last → At (tableOf s) a k last (passed + 1) (set here (k - 1) (x + 1))
-    at-next b e f l =
+    pub at-next : {b : Bool} → b ≡ dead sameRole (tableOf s) (take k here) → b ≡ true → x < last → At (tableOf s) a k last (passed + 1) (set here (k - 1) (x + 1))
+    at-next {b} e f l =
         record {
           is = ap (λ (z : List ℕ). set z (k - 1) (x + 1)) (at .is) ∙ set-set a (k - 1) (ownOf (setsOf a k) + passed) (x + 1)
               ∙ ap (set a (k - 1)) (let q = x-is in let z : x + 1 ≡ ownOf (setsOf a k) + (passed + 1) = omega arith in z);

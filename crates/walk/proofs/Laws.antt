@@ -169,7 +169,7 @@ module _ (t : Table) (sets : Sets) (fits : sets .chosen ≤ length (sets .set)) 
 ----------------------------------------------------------------------------------------------------
 -- The table's counts
 
-module _ (s : List ℕ) (c e v m last : ℕ) (given : Given s c e v m last) where
+module _ {s : List ℕ} {c e v m last : ℕ} (given : Given s c e v m last) where
   pub given-variables : (tableOf s .variables ≡ v) × (v ≤ 12)
   given-variables =
       let l = layout s (given .readable) in let a : tableOf s .variables ≡ byteAt s 7 = l .variables in let b : v ≡ byteAt s 7 = given .variables in

@@ -8,7 +8,7 @@
 --   freshly t p l     == the line l has or reaches the newest variable, and is ready at every child whose newest variable leads to chosen ones
 --   child-dead        == where it leads to chosen ones only, the child is dead exactly if one of these lines fails
 use mathlib.Core.Path.{_≡_, refl, sym, ap, ap₂, subst, _∙_}
-use mathlib.Core.Bool.{Bool, true, false, _&&_, _||_, not}
+use mathlib.Core.Bool.{Bool, true, false, _&&_, _||_, not, and-assoc}
 use mathlib.Core.Logic.{_⊎_, inl, inr, _↔_}
 use mathlib.Core.List.{List, [], _∷_, _++_}
 use Prim.Native.Nat.{ℕ, zero, suc, _+_, _≤_, _<_}
@@ -75,7 +75,7 @@ module _ (t : Table) (known : T (declared t)) (p : Node) (x : ℕ) where
       go : Dec (z < length p) → Dec (z ≡ length p) → T (depends t p z w) ⊎ (z ≡ length p)
       go (yes h) e = inl (subst T (sym (depends-same t p (childOf p x) z w (set-stays p (x ∷ []) z h))) d)
       go (no h) (yes e) = inr e
-      go (no h) (no e) = absurd (false-not (depends t (childOf p x) z w) (depends-unchosen t known (childOf p x) [] z w (let c = child-length t known p x in omega arith)) d)
+      go (no h) (no e) = absurd (false-not (depends t (childOf p x) z w) (depends-unchosen t (childOf p x) z w (let c = child-length t known p x in omega arith)) d)
 
   abbrev Short : ℕ → ℕ → Type 0
   Short z w = Parent z w ⊎ (New w × ((z ≡ length p) ⊎ Parent z (length p)))
@@ -104,8 +104,8 @@ module _ (t : Table) (known : T (declared t)) (p : Node) (x : ℕ) where
 
   -- at the parent the newest variable has no dependences
   not-yet : {z w : ℕ} → z ≡ length p → Parent z w → ⊥
-  not-yet e (once {x = z} {y = w} d) = false-not (depends t p z w) (depends-unchosen t known p [] z w (omega arith)) d
-  not-yet e (then {x = z} {y = w} d r) = false-not (depends t p z w) (depends-unchosen t known p [] z w (omega arith)) d
+  not-yet e (once {x = z} {y = w} d) = false-not (depends t p z w) (depends-unchosen t p z w (omega arith)) d
+  not-yet e (then {x = z} {y = w} d r) = false-not (depends t p z w) (depends-unchosen t p z w (omega arith)) d
 
   child-new : (w : ℕ) → Child (length p) w → New w
   child-new w r = go (shorten r)
@@ -257,15 +257,11 @@ module _ (t : Table) (known : T (declared t)) (p : Node) (x : ℕ) where
       unfolding touches
       touch-same l = anyOf-same (λ z. eqb z (length p) || reaches t (childOf p x) z (length p)) (λ z. eqb z (length p) || reaches t p z (length p)) (lineVariables (t .rows) l) 0 (λ i _. same-touch (getD (lineVariables (t .rows) l) i 0))
 
-      regroup : (a b c : Bool) → a && (b && c) ≡ (a && b) && c
-      regroup true b c = refl
-      regroup false b c = refl
-
       fails-same : (l : Line) → touches t (childOf p x) (length p) l && fails under t (childOf p x) l ≡ freshly t p l && not (holds under (t .rows) (induced t (childOf p x)) l)
       unfolding fails freshly
       fails-same l =
           ap₂ (λ (a b : Bool). a && (b && not (holds under (t .rows) (induced t (childOf p x)) l))) (touch-same l) (ready-same l)
-          ∙ regroup (anyOf (λ z. eqb z (length p) || reaches t p z (length p)) (lineVariables (t .rows) l)) (everyOf ReadyAt (lineVariables (t .rows) l)) (not (holds under (t .rows) (induced t (childOf p x)) l))
+          ∙ sym (and-assoc (anyOf (λ z. eqb z (length p) || reaches t p z (length p)) (lineVariables (t .rows) l)) (everyOf ReadyAt (lineVariables (t .rows) l)) (not (holds under (t .rows) (induced t (childOf p x)) l)))
 
       -- WHERE IT LEADS TO CHOSEN ONES ONLY, THE LINES TO TEST ARE READ OFF THE PARENT
       pub child-dead : dead under t (childOf p x) ≡ anyOf (λ l. freshly t p l && not (holds under (t .rows) (induced t (childOf p x)) l)) (t .lines)

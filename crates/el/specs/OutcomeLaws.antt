@@ -7,7 +7,7 @@
 --   outcome-says    == what each outcome says, and when it is given
 --   more-budget     == a larger budget gives the same outcome
 use mathlib.Core.Path.{_≡_, refl, sym, ap, ap₂, subst, _∙_, fun-ext}
-use mathlib.Core.Bool.{Bool, true, false, _&&_, not}
+use mathlib.Core.Bool.{Bool, true, false, _&&_, not, and-false}
 use mathlib.Core.List.{List, [], _∷_, _++_}
 use mathlib.Core.Option.{Option, none, some}
 use Prim.Native.Nat.{ℕ, zero, suc, _+_, _^_, _≤_, _<_}
@@ -60,11 +60,7 @@ module _ (under : ℕ → ℕ → Bool) (t : Table) (known : T (declared t)) whe
 
   not-full : (s : Node) → length s < t .variables → ends under t s ≡ false
   unfolding ends full
-  not-full s h = let q : length s ≡ t .variables → ⊥ = omega arith in ap (λ (b : Bool). not (dead under t s) && b) (ne-eqb (length s) (t .variables) q) ∙ and-no (not (dead under t s))
-    where
-      and-no : (b : Bool) → b && false ≡ false
-      and-no true = refl
-      and-no false = refl
+  not-full s h = let q : length s ≡ t .variables → ⊥ = omega arith in ap (λ (b : Bool). not (dead under t s) && b) (ne-eqb (length s) (t .variables) q) ∙ and-false (not (dead under t s))
 
   -- THE FIRST NODE THAT ENDS THE WALK IS THE FIRST ASSIGNMENT THAT SOLVES
   pub first-solution : firstOf (ends under t) (nodes under t) ≡ firstOf (solves under t) (assignments t)

@@ -11,10 +11,10 @@
 --   anyBelow-step, anyBelow-none            == no number passes: by one more, by all
 --   anyBelow-same                           == tests that agree below n
 --   allBelow-..                             == the same for every number below n
---   anyOf-.., everyOf-..                    == the same over a list, by places; `-append` over two lists; `everyOf-map`, `everyOf-both` along an implication
+--   anyOf-.., everyOf-..                    == the same over a list, by places; `-append` over two lists; `anyOf-places` asks each place; `everyOf-map`, `everyOf-both` along an implication
 --   bit-none, bit-first, bit-next           == bits of 0, bit 0, and the bits after it
 use mathlib.Core.Path.{_≡_, refl, sym, ap, ap₂, subst, _∙_}
-use mathlib.Core.Bool.{Bool, true, false, _&&_, _||_}
+use mathlib.Core.Bool.{Bool, true, false, _&&_, _||_, and-assoc, or-assoc}
 use mathlib.Core.Logic.{_⊎_, inl, inr}
 use mathlib.Core.List.{List, [], _∷_, _++_}
 use Prim.Native.Nat.{ℕ, zero, suc, _+_, _^_, _/_, _%_, _<_}
@@ -160,14 +160,6 @@ allBelow-same (suc n) p q f = ap₂ _&&_ (allBelow-same n p q (λ i h. f i (omeg
 ----------------------------------------------------------------------------------------------------
 -- Some element of a list
 
-or-assoc : (a b c : Bool) → (a || b) || c ≡ a || (b || c)
-or-assoc true b c = refl
-or-assoc false b c = refl
-
-and-assoc : (a b c : Bool) → (a && b) && c ≡ a && (b && c)
-and-assoc true b c = refl
-and-assoc false b c = refl
-
 module _ {A : Type 0} (p : A → Bool) where
   pub anyOf-append : (l m : List A) → anyOf p (l ++ m) ≡ anyOf p l || anyOf p m
   unfolding anyOf
@@ -188,6 +180,12 @@ module _ {A : Type 0} (p : A → Bool) where
       go : T (p x) ⊎ T (anyOf p l) → (T (anyOf p l) → (i : ℕ) × (i < length l) × T (p (getD l i d))) → (i : ℕ) × (i < suc (length l)) × T (p (getD (x ∷ l) i d))
       go (inl u) rest = (0, omega arith, u)
       go (inr u) rest = let r = rest u in let h : r .0 < length l = r .1 in (suc (r .0), omega arith, r .2)
+
+  pub anyOf-places : (l : List A) (d : A) → anyOf p l ≡ anyBelow (length l) (λ i. p (getD l i d))
+  anyOf-places l d =
+      same-test (anyOf p l) (anyBelow (length l) (λ i. p (getD l i d)))
+      (λ u. let r = anyOf-found l d u in anyBelow-hit (length l) (r .0) (λ i. p (getD l i d)) (r .1) (r .2))
+      (λ u. let r = anyBelow-found (length l) (λ i. p (getD l i d)) u in anyOf-hit l (r .0) d (r .1) (r .2))
 
   pub everyOf-append : (l m : List A) → everyOf p (l ++ m) ≡ everyOf p l && everyOf p m
   unfolding everyOf

@@ -19,6 +19,7 @@ use Rattle.el.specs.Table.{Table}
 use Rattle.el.specs.Walk.{Node, dead}
 use Rattle.table.specs.Reading.{tableOf}
 use Rattle.node.specs.Node.{Clean, NodeGiven}
+use Rattle.node.specs.SquareLaws.{clean-next}
 use Rattle.node.specs.NodeTestLaws.{node-few}
 use Rattle.level.specs.declared.End.the-variants.{Live, Over, Spent}
 use Rattle.level.specs.Level.{Levels, setsOf, levelOf, ChildGiven, siblingOf, ownOf, deadSibling, Passes, Sweeps}
@@ -47,11 +48,8 @@ child-sibling s start turning leaving fresh few c e v m k a x given =
     same : take (k - 1) (set a (k - 1) x) ≡ take (k - 1) a
     same = take-set-le (k - 1) a (k - 1) x (omega arith)
 
-    old : (y : ℕ) → k ≤ y → getD a y 0 ≡ 0
-    old = unfold Clean in given .node .clean
-
     clean : Clean (setsOf (set a (k - 1) x) k)
-    clean = unfold Clean in (λ y h. getD-set-other a (k - 1) y x 0 (let z : 0 < k = given .some in omega arith) ∙ old y h)
+    clean = unfold Clean in clean-next a k x (given .some) (given .node .clean)
 
 pub record At (t : Table) (a : List ℕ) (k last passed : ℕ) (here : List ℕ) : Type 0 where
   pub is : here ≡ siblingOf (setsOf a k) (ownOf (setsOf a k) + passed)

@@ -14,7 +14,7 @@ use lib.ListN.{length, take, drop, getD}
 use borrow.Author.Tests.{lt-ltb, ltb-true}
 use Rattle.table.specs.Reading.{byteAt, reading, isReadable}
 use Rattle.table.specs.Layout.{lineStart}
-use Rattle.table.specs.LayoutLaws.{layout}
+use Rattle.table.specs.LayoutLaws.{line-inside}
 use Rattle.makrothel.specs.Answer.{linePart}
 use Rattle.makrothel.specs.C.{hasLine, lineFound, lineSpan, spanned}
 use Rattle.makrothel.specs.Unique.{line-length}
@@ -71,7 +71,7 @@ module _ (s : List ℕ) (n : ℕ) where
 
   module _ (h : There s n) (at : ℕ) (a : at ≡ lineStart s n) where
     pub line-within : at + byteAt s at + 2 ≤ length s
-    line-within = rw a (layout s (h .0) .line-in n (h .1))
+    line-within = line-inside s (h .0) n at (h .1) a
 
     pub line-spanned : (p : ℕ) → p ≡ byteAt s at → Told s n 1 at (p + 2)
     line-spanned p e = rw (e, a) (told true (there-has h))

@@ -68,6 +68,10 @@ written-behind v a out e h = (subst (λ (k : ℕ). drop (4 * k) (written a out) 
 
 module _ (s : List ℕ) (b : ℕ) (out : List ℕ) where
   -- the answer to a refusal of the reader
+  pub answer-refused : (n p : ℕ) → reading s ≡ refusal n p → answer s b out ≡ refusedAs n p out
+  unfolding answer
+  answer-refused n p e = ap (λ (r : Reading). readingAs r b out) e
+
   unread : (n p : ℕ) → reading s ≡ refusal n p → Row s b out (refusedAs n p out)
   unread n p e =
       let r : RefusedAt s n p = refusal-placed s n p e in
@@ -104,11 +108,8 @@ module _ (s : List ℕ) (b : ℕ) (out : List ℕ) where
   answer-row : Row s b out (answer s b out)
   answer-row = go (reading s) refl
     where
-      refused-answer : (n p : ℕ) → reading s ≡ refusal n p → answer s b out ≡ refusedAs n p out
-      refused-answer n p e = unfold answer in ap (λ (r : Reading). readingAs r b out) e
-
       go : (r : Reading) → reading s ≡ r → Row s b out (answer s b out)
-      go (refusal n p) e = subst (Row s b out) (sym (refused-answer n p e)) (unread n p e)
+      go (refusal n p) e = subst (Row s b out) (sym (answer-refused n p e)) (unread n p e)
       go (readable h t) e = read h t e (decLe (4 * t .variables) (length out))
 
   -- EVERY INPUT GETS A ROW OF THE TABLE OF NUMBERS

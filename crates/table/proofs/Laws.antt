@@ -8,7 +8,6 @@
 --   turn-start, turn-stop, turn-next, turn-end == the turns of a loop over many of a kind
 --   mark-.., version-..          == the tests of the mark and the version, by the byte at which they end
 --   header-.., row-.., rows-.., entry-.., entries-.., line-.., lines-.., body-.., check-.. == each answer of the function so named
---   start-..                     == the loop over the places where lines begin
 use mathlib.Core.Path.{_≡_, refl, sym, ap, subst, _∙_}
 use mathlib.Core.Bool.{Bool, true, false, not, cond, true≢false}
 use mathlib.Core.List.{List, [], _∷_}
@@ -466,20 +465,3 @@ module _ (s : List ℕ) where
       go : (x : Read Table) → stepOf x ≡ Next end → Readable ≡ verdictOf (whole (headerOf s) x)
       go (refused m k) q = absurd (next-stop end m k (sym q))
       go (got t at) q = refl
-
------------------------------------------------------------------- where lines begin
-
-module _ (s : List ℕ) (ok : T (isReadable (reading s))) where
-  pub header-there : 10 ≤ length s
-  header-there = layout s ok .header-in
-
-  pub start-first : (e : ℕ) → e ≡ byteAt s 8 → 10 + 2 * e ≡ lineStart s 0
-  unfolding lineStart
-  start-first e q = ap (λ (k : ℕ). 10 + 2 * k) q
-
-  pub start-room : (i at : ℕ) → at ≡ lineStart s i → i < byteAt s 9 → at + byteAt s at + 2 ≤ length s
-  start-room i at q w = subst (λ (x : ℕ). x + byteAt s x + 2 ≤ length s) (sym q) (layout s ok .line-in i w)
-
-  pub start-next : (i at p : ℕ) → at ≡ lineStart s i → p ≡ byteAt s at → at + p + 2 ≡ lineStart s (i + 1)
-  unfolding lineStart
-  start-next i at p q e = ap (λ (k : ℕ). at + k + 2) e ∙ ap (λ (x : ℕ). x + byteAt s x + 2) q ∙ ap (lineStart s) (sym (add-one i))

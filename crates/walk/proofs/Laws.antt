@@ -32,6 +32,7 @@ use Rattle.table.specs.Reading.{byteAt, reading, isReadable, tableOf}
 use Rattle.table.specs.Layout.{Layout}
 use Rattle.table.specs.LayoutLaws.{layout}
 use Rattle.node.specs.Node.{nodeOf, Clean, NodeGiven, Prepares}
+use Rattle.node.specs.SquareLaws.{clean-next, clean-up, length-node}
 use Rattle.level.specs.declared.Level.{Level}
 use Rattle.level.specs.declared.Swept.{Swept}
 use Rattle.level.specs.declared.End as level-end
@@ -61,26 +62,16 @@ unfolding Goes
 goes-start t a k = (refl, λ s. s)
 
 module _ (t : Table) (last : ℕ) (width : 2 ^ atoms t ≡ last + 1) (a : List ℕ) (k : ℕ) (some : 0 < k) (fits : k ≤ length a) where
-  clean-set : (y : ℕ) → ((x : ℕ) → k ≤ x → getD a x 0 ≡ 0) → (x : ℕ) → k ≤ x → getD (set a (k - 1) y) x 0 ≡ 0
-  clean-set y f x h = getD-set-other a (k - 1) x y 0 (omega arith) ∙ f x h
-
   above-set : (y : ℕ) → ((j : ℕ) → j < k → dead sameRole t (take j a) ≡ false) → (j : ℕ) → j < k → dead sameRole t (take j (set a (k - 1) y)) ≡ false
   above-set y f j h = ap (dead sameRole t) (take-set-le j a (k - 1) y (omega arith)) ∙ f j h
 
-  up-clean : ((x : ℕ) → k ≤ x → getD a x 0 ≡ 0) → (x : ℕ) → k - 1 ≤ x → getD (set a (k - 1) 0) x 0 ≡ 0
-  up-clean f x h = go (ℕ-discrete x (k - 1))
-    where
-      go : Dec (x ≡ k - 1) → getD (set a (k - 1) 0) x 0 ≡ 0
-      go (yes e) = ap (λ (i : ℕ). getD (set a (k - 1) 0) i 0) e ∙ getD-set-same a (k - 1) 0 0 (omega arith)
-      go (no e) = clean-set 0 f x (omega arith)
-
   up-sound : SoundAt t a k → SoundAt t (set a (k - 1) 0) (k - 1)
   unfolding SoundAt
-  up-sound s = (let h : k ≤ t .variables = s .0 in omega arith, up-clean (s .1), λ j h. above-set 0 (s .2) j (omega arith))
+  up-sound s = (let h : k ≤ t .variables = s .0 in omega arith, clean-up a k some fits (s .1), λ j h. above-set 0 (s .2) j (omega arith))
 
   pub next-sound : (y : ℕ) → SoundAt t a k → SoundAt t (set a (k - 1) y) k
   unfolding SoundAt
-  next-sound y s = (s .0, clean-set y (s .1), above-set y (s .2))
+  next-sound y s = (s .0, clean-next a k y some (s .1), above-set y (s .2))
 
   -- where the node has no sibling left, the walk goes up
   pub goes-up : (a₀ : List ℕ) (k₀ : ℕ) → last ≤ getD a (k - 1) 0 → Goes t a₀ k₀ a k → Goes t a₀ k₀ (set a (k - 1) 0) (k - 1)
@@ -119,10 +110,6 @@ module _ (t : Table) (s : Node) where
   ends-part e h = rw (e, ne-eqb (length s) (t .variables) h)
 
 module _ (t : Table) (sets : Sets) (fits : sets .chosen ≤ length (sets .set)) where
-  node-length : length (nodeOf sets) ≡ sets .chosen
-  unfolding nodeOf
-  node-length = length-take-le (sets .chosen) (sets .set) fits
-
   rest-dead : dead sameRole t (nodeOf sets) ≡ true → rest t sets ≡ nodeOf sets ∷ after t sets
   unfolding rest after nodeOf
   rest-dead e = remaining-dead sameRole t (sets .set) (sets .chosen) e
@@ -133,12 +120,12 @@ module _ (t : Table) (sets : Sets) (fits : sets .chosen ≤ length (sets .set)) 
   looked-dead Over to e s n = (ends-dead t (nodeOf sets) e, rest-dead e ∙ ap (λ (l : List Node). nodeOf sets ∷ l) n)
 
   pub looked-solved : dead sameRole t (nodeOf sets) ≡ false → sets .chosen ≡ t .variables → LookedAs t sets Solved sets
-  looked-solved e h = (ends-live t (nodeOf sets) e (node-length ∙ h), refl)
+  looked-solved e h = (ends-live t (nodeOf sets) e (length-node sets fits ∙ h), refl)
 
   pub looked-down : (to : Sets) → sets .chosen < length (sets .set) → sets .chosen < t .variables → 0 < 2 ^ atoms t → dead sameRole t (nodeOf sets) ≡ false
       → SoundAt t (sets .set) (sets .chosen) → to .set ≡ set (sets .set) (sets .chosen) 0 → to .chosen ≡ sets .chosen + 1 → LookedAs t sets On to
   looked-down to h l w e s p q = (
-    ends-part t (nodeOf sets) e (λ z. let y : sets .chosen ≡ t .variables = sym node-length ∙ z in omega arith),
+    ends-part t (nodeOf sets) e (λ z. let y : sets .chosen ≡ t .variables = sym (length-node sets fits) ∙ z in omega arith),
     (unfold rest nodeOf in (remaining-down sameRole t (sets .set) (sets .chosen) h l w e ∙ ap₂ (λ (a : List ℕ) (k : ℕ). take (sets .chosen) (sets .set) ∷ remaining sameRole t a k) (sym p) (sym q))),
     subst (λ (a : List ℕ). SoundAt t a (to .chosen)) (sym p) (subst (SoundAt t (set (sets .set) (sets .chosen) 0)) (sym q) down-sound),
     kin-child t sets to h w p q,
@@ -416,9 +403,3 @@ unfolding rest
 walked-start t b sets e =
     scan-means sameRole t b
     ∙ ap₂ (λ (k : ℕ) (l : List Node). scan (ends sameRole t) k 0 l) (sym (sub-zero b)) (remaining-start sameRole t (sets .set) ∙ ap (remaining sameRole t (sets .set)) (sym e))
-
-----------------------------------------------------------------------------------------------------
--- The last set number
-
-pub power-fits : (n : ℕ) → n < 32 → 1 * 2 ^ n % 4294967296 ≡ 2 ^ n
-power-fits n h = ap (λ (k : ℕ). k % 4294967296) (one-mul (2 ^ n)) ∙ mod-eq-of-lt (pow-lt h)

@@ -6,7 +6,7 @@ use native.Mathlib.Omega.{arith}
 use lib.ListN.{length}
 use Rattle.el.specs.Test.{bit}
 use Rattle.node.specs.Node.{Masks}
-use Rattle.node.specs.MaskLaws.{bit-is, bit-is-not}
+use Rattle.order.specs.BitLaws.{bit-on, bit-off}
 use Rattle.level.specs.Level.{newBy}
 use Rattle.level.specs.LevelLaws.{new-start, new-more, new-skip, new-empty, new-whole}
 use borrow.Author.Needs.{needs}
@@ -58,8 +58,8 @@ loop-again : tie.Need-loop-again Inv-loop μ-loop
 loop-again c = (
   omega arith,
   λ y. ⊎-elim
-      (λ w. ap (bit y) (w .2) ∙ new-more _ _ _ _ (bit-is _ _ (w .0 .taken)) (c .before .before .loop .inv .1) y)
-      (λ w. ap (bit y) (w .1) ∙ new-skip _ _ _ _ (bit-is-not _ _ (w .0 .left)) (c .before .before .loop .inv .1) y)
+      (λ w. ap (bit y) (w .2) ∙ new-more _ _ _ _ (bit-on _ _ (w .0 .taken)) (c .before .before .loop .inv .1) y)
+      (λ w. ap (bit y) (w .1) ∙ new-skip _ _ _ _ (bit-off _ _ (w .0 .left)) (c .before .before .loop .inv .1) y)
       (c .if2 .came),
 )
 

@@ -3,9 +3,9 @@ use borrow.Author.Needs.{needs}
 use mathlib.Core.Path.{_≡_, sym, ap, _∙_}
 use native.Mathlib.Omega.{arith}
 use Rattle.el.specs.Walk.{Outcome}
-use Rattle.table.specs.LayoutLaws.{layout}
+use Rattle.table.specs.LayoutLaws.{layout, readable-is}
 use Rattle.makrothel.specs.Solve.{answered, outcomeAs}
-use Rattle.makrothel.proofs.Laws.{readable-is, header-there, solve-refused, solve-short, solve-walked}
+use Rattle.makrothel.proofs.Laws.{header-there, solve-refused, solve-short, solve-walked}
 use Rattle.makrothel.proofs.solve.Statement.{statement}
 use Rattle.makrothel.proofs.solve.Tie as tie
 use Rattle.makrothel.proofs.solve.Reads as reads

@@ -3,7 +3,7 @@ use mathlib.Core.Path.{_≡_}
 use Prim.Native.Nat.{_<_, _^_}
 use native.Mathlib.Omega.{arith}
 use lib.Pow.{pow-pos}
-use Rattle.walk.proofs.Laws.{power-fits}
+use Rattle.order.specs.BitLaws.{power-fits}
 use borrow.Author.Needs.{needs}
 use Rattle.walk.proofs.last_set.Statement.{statement}
 use Rattle.walk.proofs.last_set.Tie as tie

@@ -1,6 +1,7 @@
 -- What a child of a live node adds, read off the parent: y is the newest variable, p the parent, and the child is p with one set more.
 --
 --   newly t p x w     == at the child the newest variable leads to w: directly, or over a variable that led to w at the parent
+--   Child z w         == at the child z reaches w
 --   shorten           == what leads to w at the child led there at the parent, or leads to the newest variable, and that to w
 --   newly-means       == so the newest variable reaches w exactly if it does so newly
 --   child-acyclic     == the child of an acyclic node is acyclic exactly if the newest variable does not lead to itself newly
@@ -10,10 +11,10 @@
 use mathlib.Core.Path.{_≡_, refl, sym, ap, ap₂, subst, _∙_}
 use mathlib.Core.Bool.{Bool, true, false, _&&_, _||_, not, and-assoc}
 use mathlib.Core.Logic.{_⊎_, inl, inr, _↔_}
-use mathlib.Core.List.{List, [], _∷_, _++_}
-use Prim.Native.Nat.{ℕ, zero, suc, _+_, _≤_, _<_}
+use mathlib.Core.List.{[], _∷_}
+use Prim.Native.Nat.{ℕ, _≤_, _<_}
 use native.Mathlib.Omega.{arith}
-use native.Mathlib.Decide.{decLt, decLe, ℕ-discrete}
+use native.Mathlib.Decide.{decLt, ℕ-discrete}
 use lib.Dec.{T, T-not, not-T, eqb, ltb, leb, eqb→eq, ltb→lt, lt→ltb, leb→le, le→leb, eqb-refl}
 use lib.ListN.{length, getD}
 use Rattle.el.specs.Test.{anyBelow, allBelow, anyOf, everyOf}
@@ -21,10 +22,10 @@ use Rattle.el.specs.Table.{Line, Table, declared}
 use Rattle.el.specs.Meaning.{holds}
 use Rattle.el.specs.Assignment.{depends, Reaches, once, then, reaches, acyclic, Acyclic, induced}
 use Rattle.el.specs.Walk.{Node, lineVariables, settled, ready, fails, dead}
-use Rattle.el.specs.TestLaws.{is-true, is-false, true-is, false-not, same-test, or-left, or-right, or-cases, and-make, and-left, and-right, anyBelow-hit, anyBelow-found, allBelow-all, allBelow-at, anyOf-hit, anyOf-found, anyOf-same, everyOf-at, everyOf-all}
+use Rattle.el.specs.TestLaws.{is-false, true-is, false-not, same-test, or-left, or-right, or-cases, and-make, and-left, and-right, anyBelow-hit, anyBelow-found, allBelow-all, allBelow-at, anyOf-found, anyOf-same, everyOf-at, everyOf-all}
 use Rattle.el.specs.ReachLaws.{reaches-join, reaches-means, reaches-declared, depends-declared, acyclic-means, depends-same}
-use Rattle.el.specs.NodeLaws.{set-stays, depends-stays, reaches-stays, depends-unchosen, settled-chosen, settled-reached, settled-make, dead-lines, dead-cyclic, noLine}
-use Rattle.el.specs.FreshLaws.{childOf, child-length, touches, parent-acyclic, fresh-fails, dead-fresh}
+use Rattle.el.specs.NodeLaws.{set-stays, reaches-stays, depends-unchosen, settled-chosen, settled-reached, settled-make, noLine}
+use Rattle.el.specs.FreshLaws.{childOf, child-length, touches, dead-fresh}
 
 unfoldable pub newly : Table → Node → ℕ → ℕ → Bool
 newly t p x w =

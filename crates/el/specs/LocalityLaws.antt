@@ -23,7 +23,7 @@ use native.Mathlib.Decide.{decLt}
 use lib.Dec.{T, ltb, eqb, eqb→eq, ltb→lt, lt→ltb}
 use lib.ListN.{length, getD, List·getD-eq-default}
 use Rattle.el.specs.Test.{everyOf, bit}
-use Rattle.el.specs.TestLaws.{false-not, or-left, or-right, or-cases, and-make, and-left, and-right, anyBelow-found, everyOf-at, everyOf-both, bit-none, bit-first, bit-next}
+use Rattle.el.specs.TestLaws.{false-not, or-left, or-right, or-cases, and-make, and-left, and-right, anyBelow-found, everyOf-both, bit-none, bit-first, bit-next}
 use Rattle.el.specs.Description.{Description, top, name, meet, some, hasName, below}
 use Rattle.el.specs.Conjuncts.{depth}
 use Rattle.el.specs.OrderLaws.{below-left, below-right, below-trans, below-depth}

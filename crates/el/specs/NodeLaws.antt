@@ -1,30 +1,36 @@
 -- A dead node hides no solution, and a full live node is one.
 --
---   depends-stays, acyclic-stays == choosing more only adds dependences
+--   line-same       == a line under two substitutions that agree on its variables
+--   set-stays       == a chosen set stays where more is chosen
+--   set-unchosen, depends-unchosen == a variable that is not chosen has the empty set and depends on none
+--   depends-stays, reaches-stays, acyclic-stays == choosing more only adds dependences
+--   settled-chosen, settled-reached, settled-make == what it is to be settled
 --   induced-stays   == what a settled variable stands for stays where more is chosen
 --   holds-stays     == so does the truth of a ready line
+--   noLine          == what stands beyond the last line
+--   dead-cyclic, dead-lines == a cyclic node is dead, and an acyclic one exactly if a line fails
 --   dead-hides      == no node below a dead one solves
 --   full-ends       == a full node ends the walk exactly if it solves
 use mathlib.Core.Path.{_≡_, refl, sym, ap, ap₂, subst, _∙_}
 use mathlib.Core.Bool.{Bool, true, false, _&&_, _||_, not}
-use mathlib.Core.Logic.{_⊎_, inl, inr}
+use mathlib.Core.Logic.{inl, inr}
 use mathlib.Core.List.{List, [], _∷_, _++_, append-nil}
-use Prim.Native.Nat.{ℕ, zero, suc, _+_, _-_, _≤_, _<_}
+use Prim.Native.Nat.{ℕ, zero, suc, _+_, _≤_, _<_}
 use native.Mathlib.Omega.{arith}
 use native.Mathlib.Decide.{decLt}
-use lib.Dec.{T, T-not, not-T, eqb, ltb, ltb→lt, lt→ltb, eqb-refl}
+use lib.Dec.{T, T-not, not-T, eqb, ltb, ltb→lt, lt→ltb}
 use lib.ListN.{length, getD, List·getD-append, List·getD-eq-default}
-use borrow.Author.Tests.{lt-ltb, le-ltb, eq-eqb}
-use Rattle.el.specs.Test.{anyBelow, allBelow, anyOf, everyOf, bit}
-use Rattle.el.specs.Description.{Description, top, name, meet, some, below}
-use Rattle.el.specs.Table.{Filler, topF, constantF, variableF, Entry, constant, restriction, variable, Row, Line, Table, rowAt, atoms, declared, rowDeclared, lineDeclared, entryDeclared, fillerDeclared}
-use Rattle.el.specs.Meaning.{Substitution, fillerUnder, rowUnder, entryUnder, leftUnder, holds, makes}
-use Rattle.el.specs.Assignment.{Assignment, setOf, depends, isVariable, Reaches, once, then, reaches, acyclic, atomUnder, conjoin, setUnder, inducedTo, induced, solves}
+use borrow.Author.Tests.{eq-eqb}
+use Rattle.el.specs.Test.{allBelow, anyOf, everyOf, bit}
+use Rattle.el.specs.Description.{meet, some, below}
+use Rattle.el.specs.Table.{Filler, topF, constantF, variableF, Entry, constant, restriction, variable, Row, Line, Table, rowAt, declared, lineDeclared, entryDeclared, fillerDeclared}
+use Rattle.el.specs.Meaning.{Substitution, fillerUnder, entryUnder, leftUnder, holds, makes}
+use Rattle.el.specs.Assignment.{Assignment, setOf, depends, isVariable, Reaches, once, then, reaches, acyclic, setUnder, inducedTo, induced, solves}
 use Rattle.el.specs.Walk.{Node, chosen, fillerVariables, entryVariables, entriesVariables, lineVariables, settled, ready, fails, dead, full, ends}
-use Rattle.el.specs.TestLaws.{is-true, is-false, true-is, false-not, same-test, or-cases, or-left, or-right, and-make, and-left, and-right, anyBelow-hit, anyBelow-found, anyBelow-none, allBelow-all, allBelow-at, anyOf-found, anyOf-hit, everyOf-at, everyOf-all, everyOf-append, bit-none}
+use Rattle.el.specs.TestLaws.{is-true, is-false, true-is, false-not, same-test, or-cases, and-make, and-left, and-right, anyBelow-none, allBelow-all, allBelow-at, anyOf-found, anyOf-hit, everyOf-at, everyOf-all, everyOf-append, bit-none}
 use Rattle.el.specs.InducedLaws.{setUnder-same}
 use Rattle.el.specs.TableLaws.{row-declared, line-declared}
-use Rattle.el.specs.ReachLaws.{depends-declared, reaches-declared, reaches-means, depends-reaches, reaches-trans, acyclic-means, depends-same}
+use Rattle.el.specs.ReachLaws.{reaches-declared, reaches-means, depends-reaches, reaches-trans, acyclic-means, depends-same}
 
 ----------------------------------------------------------------------------------------------------
 -- A line under two substitutions that agree on its variables

@@ -1,7 +1,6 @@
 -- Laws of the order between descriptions.
 --
 --   among-left, among-right, among-cases    == what is among two lists one after the other
---   A ↔ B                                   == A gives B, and B gives A
 --   hasName-means, hasSome-means            == the two questions of the order, by the lists of conjuncts
 --   corollary-1, corollary-1-only           == the computed order is what Corollary 1 of 004 says, and nothing else is
 --   below-left, below-right                 == one conjunct below is enough

@@ -1,6 +1,5 @@
 -- Dependence over one or more steps: the tests say what the statements say.
 --
---   A ↔ B               == A gives B, and B gives A
 --   reaches-join        == two chains make one
 --   path-step           == one step is a path, whatever its inner variables may be
 --   path-join           == two paths meet in a variable that may be an inner one
@@ -21,10 +20,10 @@ use Prim.Native.Nat.{ℕ, zero, suc, _+_, _<_}
 use native.Mathlib.Omega.{arith}
 use native.Mathlib.Nat.{not-suc-le-zero}
 use native.Mathlib.Decide.{ℕ-discrete}
-use lib.Dec.{T, ltb, eqb→eq, ltb→lt, T-not, not-T}
+use lib.Dec.{T, eqb→eq, ltb→lt, T-not, not-T}
 use lib.ListN.{length}
-use Rattle.el.specs.Test.{anyBelow, everyOf, bit}
-use Rattle.el.specs.TestLaws.{or-left, or-right, or-cases, and-make, and-left, and-right, anyBelow-found, allBelow-all, allBelow-at, allBelow-same, everyOf-at}
+use Rattle.el.specs.Test.{anyBelow, bit}
+use Rattle.el.specs.TestLaws.{or-left, or-right, or-cases, and-make, and-left, and-right, anyBelow-found, allBelow-all, allBelow-at, allBelow-same}
 use Rattle.el.specs.Table.{Filler, topF, constantF, variableF, Table, rowAt, fillerDeclared, declared}
 use Rattle.el.specs.TableLaws.{row-declared}
 use Rattle.el.specs.Assignment.{Assignment, setOf, isVariable, depends, Reaches, once, then, Acyclic, path, reaches, acyclic}

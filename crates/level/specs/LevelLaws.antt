@@ -1,19 +1,23 @@
 -- Laws of a level.
 --
 --   new-start, new-more, new-skip, new-whole == the loop that follows the newest variable's dependences
---   listed-start, turn-more, turn-skip, listed-whole == the loop that lists lines
---   passing-same, passing-below, passing-any == the numbers that pass a test
---   fresh-none, fresh-some == whether a line is listed, by its mask
---   about-says, near-says, fresh-says == what the two masks of a level say, and so which lines it lists
---   lines-start, lines-fail, lines-next, lines-whole, fresh-in, fresh-line == the loop over the lines listed
---   node-child, parent-shows == the node above the node of the sets
---   level-whole, level-made == the level that is made so
 --   new-empty      == where there are no direct dependences
+--   some-high      == a number with something left after a shift has a bit there
 --   bit-added, bit-kept == a bit that is set where a test says so
 --   ways-start, ways-more, ways-whole == the loop that marks the atoms that lead to a variable of W
 --   back-some, back-all, out-some, out-all == how such a variable is found in a mask
---   ways-tell      == what those atoms say of the children
---   below-given, dead-cycle, dead-open, dead-fresh == the test of a child by its level
+--   passing-below, passing-any, passing-same == the numbers that pass a test
+--   listed-start, turn-more, turn-skip, listed-whole == the loop that lists lines
+--   fresh-none, fresh-some == whether a line is listed, by its mask
+--   about-says, near-says, fresh-says == what the two masks of a level say, and so which lines it lists
+--   lines-start, lines-fail, lines-next, lines-whole, fresh-in, fresh-line == the loop over the lines listed
+--   parent-length, parent-few, parent-clean, parent-node == the node above the node of the sets
+--   node-child     == the node is a child of it
+--   parent-shows, parent-needs == its square
+--   ways-tell      == what the atoms that lead to a variable of W say of the children
+--   level-whole, level-made == the level that is made so
+--   few-lines      == the table has at most 64 lines, and a mask for each
+--   dead-cycle, dead-open, below-given, dead-fresh == the test of a child by its level
 use mathlib.Core.Path.{_≡_, refl, sym, ap, ap₂, subst, _∙_}
 use mathlib.Core.Bool.{Bool, true, false, _&&_, _||_, not, or-false, or-comm, or-assoc}
 use mathlib.Core.Logic.{_⊎_, inl, inr}
@@ -23,31 +27,31 @@ use native.Mathlib.Omega.{arith}
 use native.Mathlib.Decide.{decLt, ℕ-discrete}
 use native.Mathlib.Numerals.{add-one}
 use lib.Bits.{bitAnd, bitOr}
-use lib.Dec.{T, T-not, not-T, eqb, ltb, leb, eqb→eq, ltb→lt, lt→ltb, le→leb, leb→le, eqb-refl}
+use lib.Dec.{T, T-not, not-T, eqb, ltb, leb, eqb→eq, le→leb, leb→le, eqb-refl}
 use lib.ListN.{length, getD, take, set, length-set, length-append, List·getD-append}
-use lib.Seq.{take-suc-set, take-suc, take-set-le, getD-set-same, getD-set-other, getD-take, length-take-le, getD-append-seam}
-use borrow.Author.Tests.{eq-eqb, ne-eqb, lt-ltb, le-ltb, eqb-true}
-use Rattle.el.specs.Test.{anyBelow, allBelow, anyOf, everyOf, bit}
+use lib.Seq.{take-suc-set, take-suc, take-set-le, getD-take, length-take-le, getD-append-seam}
+use borrow.Author.Tests.{eq-eqb, ne-eqb, lt-ltb, le-ltb}
+use Rattle.el.specs.Test.{anyBelow, allBelow, anyOf, bit}
 use Rattle.el.specs.TestLaws.{is-true, is-false, true-is, false-not, same-test, or-left, or-right, or-cases, and-make, and-left, and-right, anyBelow-hit, anyBelow-found, anyBelow-next, anyBelow-same, anyBelow-step, anyBelow-true-at, anyBelow-none, allBelow-all, allBelow-at, anyOf-append, anyOf-hit, anyOf-found, bit-none}
 use Rattle.el.specs.Description.{sameRole}
-use Rattle.el.specs.Table.{constant, Line, Table, declared}
+use Rattle.el.specs.Table.{Line, Table, declared}
 use Rattle.el.specs.Meaning.{holds}
 use Rattle.el.specs.Assignment.{setOf, depends, reaches, acyclic, induced}
 use Rattle.el.specs.ReachLaws.{acyclic-same, reaches-means, reaches-declared}
 use Rattle.el.specs.Walk.{Node, lineVariables, dead}
-use Rattle.el.specs.NodeLaws.{noLine, dead-cyclic}
-use Rattle.el.specs.FreshLaws.{childOf, parent-acyclic}
+use Rattle.el.specs.NodeLaws.{dead-cyclic}
+use Rattle.el.specs.FreshLaws.{childOf}
 use Rattle.el.specs.ChildLaws.{newly, freshly, child-acyclic, child-open, child-dead}
-use Rattle.table.specs.Reading.{byteAt, reading, isReadable, tableOf}
-use Rattle.table.specs.Layout.{Layout, lineAt}
+use Rattle.table.specs.Reading.{byteAt, tableOf}
+use Rattle.table.specs.Layout.{lineAt}
 use Rattle.table.specs.LayoutLaws.{layout}
 use Rattle.order.specs.Given.{LineGiven}
 use Rattle.node.specs.declared.Sets.{Sets}
-use Rattle.node.specs.Node.{nodeOf, Clean, Masks, isAmong, dependsBy, FillMasks, LineMasks, LineStarts, Fills, Prepares, rowOf, Shows, Squares, settledBy, leadsBy, NodeGiven}
+use Rattle.node.specs.Node.{nodeOf, Clean, Masks, isAmong, dependsBy, LineMasks, LineStarts, Prepares, rowOf, Shows, Squares, settledBy, leadsBy, NodeGiven}
 use Rattle.order.specs.BitLaws.{bit-more, high-none, bit-or, bit-and}
 use Rattle.node.specs.MaskLaws.{has-bit, no-bits, none-high, masks-or}
 use Rattle.node.specs.CodeLaws.{eqb-comm, mask-one}
-use Rattle.node.specs.ReadyLaws.{every-among, among-every, ready-by, none-by, leads-says}
+use Rattle.node.specs.ReadyLaws.{ready-by, none-by, leads-says}
 use Rattle.node.specs.SquareLaws.{depends-filled, same-sets, clean-up, reaches-unchosen}
 use Rattle.node.specs.DeadLaws.{same-holds, any-below}
 use Rattle.node.specs.NodeTestLaws.{node-layout, node-few, square-needs, node-fills}
@@ -413,9 +417,6 @@ module _ (s start : List ℕ) (c e v : ℕ) (fresh : List ℕ) (few : ℕ) (sets
         begins = (unfold LineStarts in given .starts n k);
       }
 
-pub child-needs : (s : List ℕ) (c e v m : ℕ) (sets : Sets) → NodeGiven s c e v m sets → (fill mask start : List ℕ) → Prepares s fill mask start → (c + e ≤ 24) × (e ≤ length fill)
-child-needs s c e v m sets given fill mask start ready = let q = square-needs s c e v m sets given fill (ready .fill-room) in (q .0, q .1)
-
 ----------------------------------------------------------------------------------------------------
 -- The level of a node of the code
 
@@ -599,10 +600,8 @@ module _ (s : List ℕ) (c e v m : ℕ) (sets : Sets) (given : NodeGiven s c e v
     pub parent-needs : (c + e ≤ 24) × (e ≤ length fill) × (sets .chosen - 1 ≤ 12) × Clean (record { set = set (sets .set) (sets .chosen - 1) 0; chosen = sets .chosen - 1 })
     unfolding Clean
     parent-needs =
-        let l = node-layout s c e v m sets given in
-        let f : byteAt s 5 + byteAt s 8 ≤ 24 = l .few-atoms in let a : c ≡ byteAt s 5 = given .constants in let b : e ≡ byteAt s 8 = given .restrictions in
-        let h : sets .chosen ≤ 12 = node-few s c e v m sets given in let r : length fill ≡ 24 = ready .fill-room in
-        (omega arith, omega arith, omega arith, parent-clean)
+        let q = square-needs s c e v m sets given fill (ready .fill-room) in let h : sets .chosen ≤ 12 = q .2 in
+        (q .0, q .1, omega arith, parent-clean)
 
     pub few-lines : (m ≤ 64) × (length mask ≡ 64)
     few-lines = let f : byteAt s 9 ≤ 64 = node-layout s c e v m sets given .few-lines in let q : m ≡ byteAt s 9 = given .lines in (omega arith, ready .mask-room)

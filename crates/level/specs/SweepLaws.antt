@@ -5,20 +5,20 @@
 --   at-start, at-next == the loop of the sweep
 --   at-child       == what the test of the one at hand asks
 --   swept-live, swept-over, swept-spent == its three ends
-use mathlib.Core.Path.{_≡_, refl, sym, ap, ap₂, subst, _∙_}
-use mathlib.Core.Bool.{Bool, true, false, not}
+use mathlib.Core.Path.{_≡_, refl, sym, ap, subst, _∙_}
+use mathlib.Core.Bool.{Bool, true, false}
 use mathlib.Core.List.{List}
-use Prim.Native.Nat.{ℕ, zero, suc, _+_, _-_, _≤_, _<_}
+use Prim.Native.Nat.{ℕ, _+_, _-_, _≤_, _<_}
 use native.Mathlib.Omega.{arith}
 use native.Mathlib.Decide.{ℕ-discrete}
 use native.Mathlib.Nat.{add-zero}
 use lib.ListN.{length, getD, take, set, length-set}
-use lib.Seq.{take-set-le, getD-set-same, getD-set-other, set-getD, set-set}
+use lib.Seq.{take-set-le, getD-set-same, set-getD, set-set}
 use Rattle.el.specs.Description.{sameRole}
 use Rattle.el.specs.Table.{Table}
 use Rattle.el.specs.Walk.{Node, dead}
 use Rattle.table.specs.Reading.{tableOf}
-use Rattle.node.specs.Node.{Clean, NodeGiven}
+use Rattle.node.specs.Node.{Clean}
 use Rattle.node.specs.SquareLaws.{clean-next}
 use Rattle.node.specs.NodeTestLaws.{node-few}
 use Rattle.level.specs.declared.End.the-variants.{Live, Over, Spent}

@@ -4,13 +4,13 @@
 --   a-line       == a part that is not empty: the table is readable and has a line n
 --   line-within  == a line lies inside its table
 --   line-spanned == the start and the length of a line that is there
-use mathlib.Core.Path.{_≡_, refl, sym, ap, _∙_}
+use mathlib.Core.Path.{_≡_, refl, ap}
 use mathlib.Core.Bool.{Bool, true, false, _&&_, cond}
 use mathlib.Core.List.{List, [], _∷_}
 use Prim.Native.Nat.{ℕ, _+_, _≤_, _<_}
 use native.Mathlib.Omega.{arith}
 use lib.Dec.{T, ltb}
-use lib.ListN.{length, take, drop, getD}
+use lib.ListN.{length}
 use borrow.Author.Tests.{lt-ltb, ltb-true}
 use Rattle.table.specs.Reading.{byteAt, reading, isReadable}
 use Rattle.table.specs.Layout.{lineStart}

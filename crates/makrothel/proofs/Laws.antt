@@ -19,8 +19,7 @@ use lib.ListN.{length, take, drop}
 use borrow.Author.Tests.{lt-ltb, le-ltb}
 use Rattle.table.specs.declared.Verdict.the-variants.{Refused, Readable}
 use Rattle.el.specs.Description.{sameRole}
-use Rattle.el.specs.Table.{Table}
-use Rattle.el.specs.Walk.{Outcome, outcome}
+use Rattle.el.specs.Walk.{outcome}
 use Rattle.table.specs.Reading.{byteAt, Header, headerOf, Reading, refusal, readable, reading, isReadable, tableOf}
 use Rattle.table.specs.Step.{verdictOf}
 use Rattle.table.specs.Layout.{lineStart}
@@ -32,7 +31,7 @@ use Rattle.walk.specs.declared.Walked.{Walked}
 use Rattle.walk.specs.Step as step
 use Rattle.output.specs.Written.{written}
 use Rattle.makrothel.specs.Answer.{readAnswer, linePart}
-use Rattle.makrothel.specs.Solve.{Answered, refusedAs, outcomeAs, tableAs, readingAs, answer}
+use Rattle.makrothel.specs.Solve.{Answered, refusedAs, outcomeAs, readingAs, answer}
 use Rattle.makrothel.specs.Demand2.{answer-outcome}
 use Rattle.makrothel.specs.Demand1.{answer-short}
 

@@ -1,14 +1,17 @@
 -- DEMAND 3: an answer survives growth.
 --
+--   Walked s out, walked == an answer of 0 or 8 comes from a readable table with room
 --   demand-3-none     == "none" means that no descriptions of any depth, over any names, make every line true
+--   demand-3-solved   == "solved" means that some descriptions do
 --   demand-3-grown    == no growth of a "none" table is ever "solved", under any budget and output
 --   demand-3-widened  == no growth without new lines of a "solved" table is ever "none"
+--   Sized t o         == the assignment of the outcome o has a set for each variable
+--   SameAnswer s q r  == the answers q and r have the same number, count and place, and the same bytes of the sets
 --   demand-3-budget   == a larger budget with enough room gives the same number, count, place and bytes
-use mathlib.Core.Path.{_≡_, refl, sym, ap, ap₂, subst, _∙_}
-use mathlib.Core.Bool.{Bool, true, false}
-use mathlib.Core.Logic.{_⊎_, inl, inr, _↔_}
+use mathlib.Core.Path.{_≡_, refl, sym, ap, subst, _∙_}
+use mathlib.Core.Logic.{_⊎_, inl, inr}
 use mathlib.Core.List.{List}
-use Prim.Native.Nat.{ℕ, _+_, _*_, _≤_, _<_}
+use Prim.Native.Nat.{ℕ, _*_, _≤_}
 use native.Mathlib.Omega.{arith}
 use native.Mathlib.Decide.{decLe}
 use lib.Dec.{T}
@@ -23,12 +26,12 @@ use Rattle.el.specs.Walk.{Outcome, solved, nothing, budget, outcome}
 use Rattle.el.specs.OutcomeLaws.{OutcomeSays, outcome-says, more-budget}
 use Rattle.el.specs.LocalityLaws.{locality, solving-substitution}
 use Rattle.el.specs.GrowthLaws.{growth-back, growth-same}
-use Rattle.table.specs.Reading.{Header, Reading, refusal, readable, reading, isReadable, tableOf}
+use Rattle.table.specs.Reading.{Header, Reading, refusal, readable, reading, tableOf}
 use Rattle.table.specs.LayoutLaws.{readable-header}
 use Rattle.output.specs.Written.{setBytes, written}
 use Rattle.output.proofs.Laws.{setBytes-length}
 use Rattle.makrothel.specs.RefusalLaws.{refusal-placed, refused-number}
-use Rattle.makrothel.specs.Solve.{Answered, refusedAs, outcomeAs, tableAs, readingAs, answer}
+use Rattle.makrothel.specs.Solve.{Answered, refusedAs, outcomeAs, answer}
 use Rattle.makrothel.specs.Grown.{Grown, SameLines}
 use Rattle.makrothel.specs.GrownLaws.{grown-grows, grown-lines}
 use Rattle.makrothel.specs.Demand1.{answer-refused, answer-short}

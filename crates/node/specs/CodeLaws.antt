@@ -12,9 +12,8 @@ use mathlib.Core.Bool.{Bool, true, false, or-false}
 use mathlib.Core.List.{List, [], _∷_}
 use mathlib.Core.Option.{some, Option·none-ne-some}
 use Prim.Native.Nat.{ℕ, _*_, _%_, _^_, _<_}
-use native.Mathlib.Omega.{arith}
-use borrow.Author.Tests.{eq-eqb, ltb-true}
-use lib.Dec.{T, eqb, ltb, eqb→eq}
+use borrow.Author.Tests.{eq-eqb}
+use lib.Dec.{T, eqb, eqb→eq}
 use Rattle.el.specs.Test.{anyOf, bit}
 use Rattle.el.specs.TestLaws.{bit-none, same-test}
 use Rattle.el.specs.Table.{Filler, topF, constantF, variableF, Entry, constant, restriction, variable, Row, rowAt}
@@ -22,7 +21,7 @@ use Rattle.el.specs.Assignment.{isVariable}
 use Rattle.el.specs.Walk.{fillerVariables, entryVariables}
 use Rattle.table.specs.declared.Kind.{Kind}
 use Rattle.table.specs.declared.Kind.the-variants.{Top, Constant, Restriction, Variable, Other}
-use Rattle.table.specs.Code.{kindOf, within, fillerOfKind, fillerOf, entryOfKind, entryOf}
+use Rattle.table.specs.Code.{kindOf, fillerOfKind, fillerOf, entryOfKind, entryOf}
 use Rattle.table.specs.LayoutLaws.{within-some}
 use Rattle.order.specs.BitLaws.{power-fits, bit-power}
 use Rattle.node.specs.Node.{Masks, isAmong}

@@ -1,5 +1,6 @@
 -- Laws of a dead node: its lines one by one.
 --
+--   any-below        == a test over the lines asks each by its number
 --   fails-none, fails-more, fails-found, fails-whole == the lines one by one
 --   dead-fails       == an acyclic node is dead exactly if one of them fails
 --   same-holds       == a line under two assignments that give the same sets

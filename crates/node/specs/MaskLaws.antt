@@ -6,18 +6,15 @@
 --   none-high       == nothing is left after a shift by k where a mask has no bit from k on
 --   masks-none      == the mask 0 has no bits
 --   masks-or        == a mask joined to another
---   masks-same      == the same mask under a test that agrees
-use mathlib.Core.Path.{_≡_, refl, sym, ap, ap₂, _∙_}
-use mathlib.Core.Bool.{Bool, true, false, _&&_, _||_}
-use Prim.Native.Nat.{ℕ, zero, suc, _+_, _-_, _*_, _/_, _%_, _^_, _≤_, _<_}
+use mathlib.Core.Path.{_≡_, refl, sym, ap₂, _∙_}
+use mathlib.Core.Bool.{Bool, true, false, _||_}
+use Prim.Native.Nat.{ℕ, zero, suc, _+_, _/_, _%_, _^_, _≤_, _<_}
 use native.Mathlib.Omega.{arith}
-use native.Mathlib.Nat.{div-self, div-eq-of-lt, mul-div-cancel-left, one-mul, pow-suc, div-one, div-div-eq-div-mul, pow-succ', mul-mod-left}
-use native.Mathlib.Decide.{ℕ-discrete, decLt}
-use borrow.Author.Tests.{eq-eqb, ne-eqb, eqb-false}
+use native.Mathlib.Decide.{ℕ-discrete}
+use borrow.Author.Tests.{eq-eqb, eqb-false}
 use lib.Dec.{eqb}
 use lib.Arith.{bin-ind}
 use lib.Bits.{bitOr}
-use lib.Pow.{pow-pos, pow-lt, pow-add, shl-exact, shr-shr}
 use Rattle.el.specs.Test.{bit}
 use Rattle.el.specs.TestLaws.{bit-none, bit-first, bit-next}
 use Rattle.order.specs.BitLaws.{bit-more, bit-or}
@@ -71,6 +68,3 @@ masks-none y = bit-none y
 
 pub masks-or : (p q : ℕ → Bool) (a b : ℕ) → Masks p a → Masks q b → Masks (λ y. p y || q y) (bitOr a b)
 masks-or p q a b f g y = bit-or y a b ∙ ap₂ _||_ (f y) (g y)
-
-pub masks-same : (p q : ℕ → Bool) (a : ℕ) → ((y : ℕ) → p y ≡ q y) → Masks p a → Masks q a
-masks-same p q a e f y = f y ∙ e y

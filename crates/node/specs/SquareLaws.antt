@@ -2,6 +2,8 @@
 --
 --   depends-start, depends-more, depends-skip == the restrictions one by one
 --   depends-whole      == all of them
+--   depends-filled     == what the masks of the restrictions say of a table
+--   DirectTo d x rows  == the rows below x show where one step of d leads, the others are empty
 --   direct-start, direct-more, direct-whole, direct-node == the rows of direct dependences one by one
 --   Half d j n x rows  == the rows below x have j as an inner variable, the others not yet
 --   half-start, half-more, half-skip, half-whole == the rows one by one
@@ -10,6 +12,7 @@
 --   closes-nowhere     == an inner variable that leads nowhere changes nothing
 --   set-node, same-sets, length-node == the sets of the code as a node
 --   clean-next, clean-up == a variable that is not chosen still has the empty set
+--   direct-paths       == rows of direct dependences show paths without inner variables
 --   paths-whole        == where the variables below n are all that depend on any, n inner variables are enough
 --   square-shows       == the square shows what each variable reaches
 --   reaches-unchosen   == a variable that is not chosen reaches none
@@ -151,14 +154,9 @@ direct-node fill c e sets x rows clean h f =
 ----------------------------------------------------------------------------------------------------
 -- One more inner variable
 
-or-absorbs : (p q : Bool) → p || (p && q) ≡ p
+or-absorbs : (p q : Bool) → p || (q && p) ≡ p
 or-absorbs true q = refl
-or-absorbs false q = refl
-
-or-absorbs-right : (p q : Bool) → p || (q && p) ≡ p
-or-absorbs-right true q = refl
-or-absorbs-right false true = refl
-or-absorbs-right false false = refl
+or-absorbs false q = and-false q
 
 -- the rows below x have j as an inner variable, the others not yet
 unfoldable pub Half : (ℕ → ℕ → Bool) → ℕ → ℕ → ℕ → List ℕ → Type 0
@@ -176,12 +174,9 @@ module _ (d : ℕ → ℕ → Bool) (j : ℕ) where
       path-next x y ∙ ap (λ (p : Bool). path d j x y || (path d j x j && p)) e
       ∙ ap (λ (p : Bool). path d j x y || p) (and-false (path d j x j)) ∙ or-false (path d j x y)
 
-  -- paths into j and out of j need not pass j
-  path-into : (x : ℕ) → path d (j + 1) x j ≡ path d j x j
-  path-into x = path-next x j ∙ or-absorbs (path d j x j) (path d j j j)
-
+  -- paths out of j need not pass j
   path-out : (y : ℕ) → path d (j + 1) j y ≡ path d j j y
-  path-out y = path-next j y ∙ or-absorbs-right (path d j j y) (path d j j j)
+  path-out y = path-next j y ∙ or-absorbs (path d j j y) (path d j j j)
 
   module _ (n : ℕ) (rows : List ℕ) where
     pub half-start : Paths d j n rows → Half d j n 0 rows

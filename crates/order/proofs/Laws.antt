@@ -1,7 +1,7 @@
 -- What the line test's code meets, with plain arguments.
 --
 --   filler-read, entry-read             == what a declared code says
---   filler-..-fits, entry-..-fits       == the number that a declared code holds is in range
+--   filler-.., entry-.., ..-fits        == the number that a declared code holds is in range
 --   set-.., entry-..                    == the set of a filler's, an entry's code, by its kind
 --   constant-kind, flat-kind            == the flat test, by the kinds of the codes
 --   rows-rest, atoms-rest               == no row, no atom from a number on is in the set
@@ -19,22 +19,21 @@
 --   line-atoms                          == the line holds
 use mathlib.Core.Path.{_≡_, refl, sym, ap, ap₂, subst, _∙_}
 use mathlib.Core.Bool.{Bool, true, false, _&&_, _||_, not, and-comm, and-false, or-true, or-false}
-use mathlib.Core.List.{List, []}
+use mathlib.Core.List.{List}
 use mathlib.Core.Option.{some, Option·none-ne-some}
 use Prim.Native.Nat.{ℕ, zero, suc, _+_, _-_, _*_, _/_, _%_, _^_, _≤_, _<_}
 use native.Mathlib.Omega.{arith}
-use native.Mathlib.Nat.{one-mul, mod-eq-of-lt, zero-div}
 use native.Mathlib.Decide.{decLt}
 use lib.Dec.{T, eqb, ltb}
 use lib.ListN.{length, getD}
 use lib.Bits.{bitOr, bitAnd, bitXor}
-use lib.Pow.{pow-pos, pow-lt, shr-shr, mod-pow-add}
+use lib.Pow.{pow-pos, mod-pow-add}
 use borrow.Author.Tests.{eq-eqb, ne-eqb, lt-ltb, le-ltb}
 use Rattle.el.specs.Description.{sameRole}
 use Rattle.el.specs.OrderLaws.{sameRole-refl}
-use Rattle.el.specs.Test.{anyBelow, allBelow, everyOf, bit}
-use Rattle.el.specs.TestLaws.{is-true, true-is, and-right, everyOf-at, same-test, false-not, anyBelow-hit, anyBelow-found, anyBelow-none, anyBelow-same, anyBelow-false-at, allBelow-every, allBelow-same, allBelow-true-at, allBelow-false-at}
-use Rattle.el.specs.Table.{Filler, topF, constantF, variableF, Entry, constant, restriction, variable, Line, Table, rowAt, atoms, rowDeclared, lineDeclared, declared}
+use Rattle.el.specs.Test.{anyBelow, allBelow, bit}
+use Rattle.el.specs.TestLaws.{is-true, true-is, same-test, false-not, anyBelow-hit, anyBelow-found, anyBelow-none, anyBelow-same, anyBelow-false-at, allBelow-every, allBelow-same, allBelow-true-at, allBelow-false-at}
+use Rattle.el.specs.Table.{Filler, topF, constantF, variableF, Entry, constant, restriction, variable, Line, Table, rowAt, atoms, lineDeclared}
 use Rattle.el.specs.TableLaws.{line-declared}
 use Rattle.el.specs.Meaning.{holds}
 use Rattle.el.specs.Assignment.{Assignment, setOf, acyclic, induced}

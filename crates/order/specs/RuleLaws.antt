@@ -1,12 +1,15 @@
 -- The rule answers the order between descriptions.
 --
---   any-one, all-one == a test over a set of one atom asks that atom alone; any-no, all-no over the empty set
+--   any-no, all-no   == a test over the empty set of atoms
+--   any-one, all-one == a test over a set of one atom asks that atom alone
 --   Single E         == a conjunction lies below E where one of its conjuncts does: E is an atom
+--   single-name, single-some, single-atom == names, restrictions and atoms are
 --   left-below       == the left conjunction of a line lies below an atom where one of its entries does
 --   atom-declared    == the fillers of a declared table's rows are declared
 --   Answers fb σ     == fb answers for the fillers of rows as the order does under σ
 --   atom-agrees      == the test of two atoms answers the order between them
 --   Says S D         == the set S and the description D say the same, as left and as right side
+--   says-top, says-atom, says-set == the empty set says top, a set of one atom that atom, and each set its conjunction
 --   says-filler, says-entry == a filler's, an entry's set says what it says with the substitution carried out
 --   sets-agree       == the left set lies below each atom of the right one: the order between what the two say
 --   rule             == the two questions answer the order between two fillers with the assignment carried out
@@ -17,20 +20,17 @@
 use mathlib.Core.Path.{_≡_, refl, sym, ap, ap₂, subst, _∙_}
 use mathlib.Core.Bool.{Bool, true, false, _&&_, _||_, not}
 use mathlib.Core.List.{List, [], _∷_}
-use Prim.Native.Nat.{ℕ, zero, suc, _+_, _-_, _/_, _%_, _^_, _≤_, _<_}
+use Prim.Native.Nat.{ℕ, zero, suc, _+_, _-_, _^_, _≤_, _<_}
 use native.Mathlib.Omega.{arith}
-use native.Mathlib.Nat.{pow-suc, div-eq-of-lt, div-self, mul-div-cancel}
-use native.Mathlib.Decide.{ℕ-discrete, decLt}
 use lib.Dec.{T, eqb, ltb, eqb→eq, eqb-refl, ltb→lt}
 use lib.ListN.{length, getD}
 use lib.Bits.{bitOr}
-use lib.Pow.{pow-pos, pow-lt, pow-add}
-use borrow.Author.Tests.{eq-eqb, ne-eqb, le-ltb, ltb-true, ltb-false}
+use borrow.Author.Tests.{ne-eqb, ltb-true, ltb-false}
 use Rattle.el.specs.Test.{anyBelow, allBelow, anyOf, everyOf, bit}
 use Rattle.el.specs.TestLaws.{is-true, same-test, true-is, and-make, and-left, and-right, anyBelow-hit, anyBelow-found, anyBelow-none, anyBelow-same, anyBelow-true-at, anyOf-places, allBelow-at, allBelow-all, allBelow-same, allBelow-every, bit-none}
 use Rattle.el.specs.Description.{Description, top, name, meet, some, below}
 use Rattle.el.specs.OrderLaws.{below-refl}
-use Rattle.el.specs.Table.{Filler, topF, constantF, variableF, Entry, constant, restriction, variable, Row, Line, Table, rowAt, atoms, fillerDeclared, rowDeclared, entryDeclared, lineDeclared, declared}
+use Rattle.el.specs.Table.{Filler, topF, constantF, variableF, Entry, constant, restriction, variable, Row, Line, Table, rowAt, atoms, fillerDeclared, entryDeclared, lineDeclared, declared}
 use Rattle.el.specs.Meaning.{Substitution, fillerUnder, rowUnder, entryUnder, leftUnder, holds}
 use Rattle.el.specs.Assignment.{Assignment, setOf, acyclic, atomUnder, conjoin, setUnder, inducedTo, induced}
 use Rattle.el.specs.TableLaws.{row-declared}

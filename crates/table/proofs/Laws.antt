@@ -1,6 +1,7 @@
 -- Laws that carry the reader's code to the reading's definition.
 --
 --   kind-..                      == the kind of a code in each range
+--   some-within                  == a number is in range exactly if something is read
 --   filler-.., entry-..          == whether a code is a filler, an entry, by its kind
 --   stop-if, pass-if             == a refusal where its test passes, and past it
 --   stop-code, next-code         == a code that is refused, and one that is read
@@ -8,14 +9,13 @@
 --   turn-start, turn-stop, turn-next, turn-end == the turns of a loop over many of a kind
 --   mark-.., version-..          == the tests of the mark and the version, by the byte at which they end
 --   header-.., row-.., rows-.., entry-.., entries-.., line-.., lines-.., body-.., check-.. == each answer of the function so named
-use mathlib.Core.Path.{_≡_, refl, sym, ap, subst, _∙_}
+use mathlib.Core.Path.{_≡_, refl, sym, ap, _∙_}
 use mathlib.Core.Bool.{Bool, true, false, not, cond, true≢false}
 use mathlib.Core.List.{List, [], _∷_}
 use mathlib.Core.Option.{Option, none, some}
-use Prim.Native.Nat.{ℕ, suc, _+_, _*_, _-_, _≤_, _<_}
+use Prim.Native.Nat.{ℕ, suc, _+_, _-_, _≤_, _<_}
 use native.Mathlib.Omega.{arith}
-use native.Mathlib.Numerals.{add-one}
-use lib.Dec.{T, eqb, ltb}
+use lib.Dec.{eqb, ltb}
 use lib.ListN.{length}
 use borrow.Author.Tests.{lt-ltb, le-ltb, le-leb, lt-leb, eq-eqb, ne-eqb}
 use Rattle.el.specs.Table.{constantF, variableF, Entry, constant, restriction, variable, Row, Line, Table}
@@ -24,10 +24,9 @@ use Rattle.table.specs.declared.Step.{Step}
 use Rattle.table.specs.declared.Step.the-variants.{Next, Stop}
 use Rattle.table.specs.declared.Verdict.the-variants.{Refused, Readable}
 use Rattle.table.specs.Code.{kindOf, within, fillerOfKind, fillerOf, entryOfKind, entryOf}
-use Rattle.table.specs.Reading.{Read, refused, got, refuseIf, andThen, orRefused, byteAt, Header, headerOf, marked, versionOne, readHeader, readRow, readRows, readEntry, readEntries, readLine, readLines, readBody, whole, fromHeader, reading, isReadable, maxAtoms, maxRoles, maxVariables, maxLines, maxLeft}
+use Rattle.table.specs.Reading.{Read, refused, got, refuseIf, andThen, orRefused, byteAt, Header, headerOf, marked, versionOne, readHeader, readRow, readRows, readEntry, readEntries, readLine, readLines, readBody, whole, fromHeader, reading, maxAtoms, maxRoles, maxVariables, maxLines, maxLeft}
 use Rattle.table.specs.Step.{isSome, stepOf, verdictOf}
-use Rattle.table.specs.Layout.{lineStart}
-use Rattle.table.specs.LayoutLaws.{header-read, layout}
+use Rattle.table.specs.LayoutLaws.{header-read}
 
 ------------------------------------------------------------------ codes
 

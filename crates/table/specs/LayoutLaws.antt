@@ -1,16 +1,20 @@
 -- The bytes of a readable table lie as its table says.
 --
+--   refused-got, got-same        == a refusal is not something read, and two readings of one thing are equal
 --   refuse-got, then-got, or-got == what is known where something was read past a refusal, in two steps, from a code
 --   RowRead s h at row           == the two bytes at `at` are the row
 --   EntryRead s h at x           == the byte at `at` is the entry
 --   LineRead s h at l            == the bytes from `at` on are the line
 --   after s at n                 == the place after n lines from `at` on
+--   after-first, start-after     == the first of them first, and `lineStart` in these words
 --   RowsRead, EntriesRead, LinesRead == the same of as many as are counted, and the place after them
 --   row-read, rows-read, entry-read, entries-read, line-read, lines-read == what was read is there
---   HeaderRead s h               == the ten bytes are the header, within its bounds
---   BodyRead s h t               == the bytes from 10 on are the table's rows and lines, and nothing follows
+--   HeaderRead s h, header-read  == the ten bytes are the header, within its bounds
+--   tableWith h rows lines       == the table of a header, with these rows and lines
+--   BodyRead s h t, body-read    == the bytes from 10 on are the table's rows and lines, and nothing follows
 --   within-some                  == a number that was read is in range
 --   filler-declared, entry-declared == what was read is declared
+--   laid, read-layout            == what was read makes a layout
 --   layout                       == a readable table's bytes lie as its table says
 --   readable-header              == a reading's header and table are headerOf and tableOf
 --   refused-readable, readable-is == a verdict is one of the two, and where it is "readable" the reading is

@@ -1,9 +1,14 @@
 -- Laws that carry the writers of the listing to its text.
 --
---   filler-..       == a filler by the kind of its code
+--   filler-text     == a code that is a filler is written as that filler
+--   row-in, header-in, few-atoms, variables-are == where the bytes lie, and how many there are
 --   row-text, atom-constant, atom-row == an atom
---   set-turn, set-later, set-some, set-none == the loop over the atoms of a set
---   variable-line, lines-turn == the lines of the variables
+--   atoms-left      == a loop over all atoms has come to its end
+--   atomTexts t s i == the texts of the atoms of the set s with a number below i
+--   atom-out, atom-there == an atom is left out, or written
+--   Below t s b at i later m e == the atoms with a number below i are written, and `later` says whether there were any
+--   below-none, below-turn, set-some, set-none == the loop over the atoms of a set
+--   variable-line, lines-none, lines-turn == the lines of the variables
 --   solved-refused, solved-short, solved-all == the lines of all variables
 --   listing-other, listing-solved == the whole text
 use mathlib.Core.Path.{_≡_, refl, sym, ap, ap₂, _∙_}
@@ -20,8 +25,8 @@ use Rattle.el.specs.Test.{bit}
 use Rattle.el.specs.Table.{Filler, topF, Table, rowAt, atoms}
 use Rattle.table.specs.declared.Kind.{Kind}
 use Rattle.table.specs.declared.Kind.the-variants.{Top, Constant, Restriction, Variable, Other}
-use Rattle.table.specs.declared.Verdict.the-variants.{Refused, Readable}
-use Rattle.table.specs.Code.{kindOf, within, fillerOfKind, fillerOf}
+use Rattle.table.specs.declared.Verdict.the-variants.{Refused}
+use Rattle.table.specs.Code.{kindOf, fillerOfKind, fillerOf}
 use Rattle.table.specs.Reading.{byteAt, Reading, refusal, readable, reading, theTable, tableOf, isReadable}
 use Rattle.table.specs.Step.{verdictOf}
 use Rattle.table.specs.LayoutLaws.{within-some, layout, refused-readable}

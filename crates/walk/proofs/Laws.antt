@@ -1,35 +1,39 @@
 -- Laws of the steps of the walk, over a list of set numbers a and how many are chosen, k.
 --
---   Goes t a₀ k₀ a k == what comes after the first node comes after the second, and the second is sound where the first is
+--   Goes t a₀ k₀ a k   == what comes after the first node comes after the second, and the second is sound where the first is
+--   kin-sibling, kin-some == a sibling is a node on the way, and a node on the way has a parent
 --   goes-start, goes-up == the loop of `next_node`
---   next-sibling        == where it ends at a sibling
---   next-none           == where no node is left
+--   next-sound         == a sibling of a sound node is sound
+--   next-sibling       == where the loop ends at a sibling
+--   next-none          == where no node is left
 --   looked-dead, looked-solved, looked-down == what examining a node finds
---   kin-sibling     == a node on the way
---   given-variables, given-node == what the table's counts give
+--   given-variables, given-chosen, given-node, given-sweep == what the table's counts give
+--   given-table        == the counts, read off the table's bytes
+--   zeros, sound-root  == the root
 --   turn-solved, turn-on, turn-over == a node of the list, gone along
---   walked-start, walked-found, walked-over, walked-on, walked-spent == a turn of the walk's loop
+--   walked-start, walked-spent, walked-found, walked-over, walked-on == the outcome at the start, and after the step that examined a node
+--   sibling-next, swept-on == dead siblings, gone along
+--   advanced-live, advanced-over, advanced-spent == a sweep by its end, and the step after it
+--   gone-fits, gone-found, gone-over, gone-on == the outcome, after an advance that the rest of the budget allowed
 use mathlib.Core.Path.{_≡_, refl, sym, ap, ap₂, subst, _∙_}
-use mathlib.Core.Bool.{Bool, true, false, _&&_, not}
+use mathlib.Core.Bool.{Bool, true, false}
 use mathlib.Core.List.{List, [], _∷_}
-use Prim.Native.Nat.{ℕ, zero, suc, _+_, _-_, _*_, _%_, _^_, _≤_, _<_}
-use native.Mathlib.Nat.{one-mul, mod-eq-of-lt, sub-zero, add-zero}
+use Prim.Native.Nat.{ℕ, zero, suc, _+_, _-_, _^_, _≤_, _<_}
+use native.Mathlib.Nat.{sub-zero, add-zero}
 use native.Mathlib.Omega.{arith}
 use native.Mathlib.Decide.{ℕ-discrete}
 use lib.ListN.{length, getD, take, set, replicate, length-set}
 use lib.Seq.{getD-set-same, getD-set-other, take-set-le, set-getD, set-set}
 use Rattle.el.specs.Description.{sameRole}
 use Rattle.el.specs.Table.{Table, atoms}
-use lib.Dec.{T, eqb}
-use lib.Pow.{pow-lt, pow-mono}
+use lib.Dec.{T}
+use lib.Pow.{pow-mono}
 use borrow.Author.Tests.{eq-eqb, ne-eqb}
-use lib.Seq.{length-take-le}
-use Rattle.el.specs.Walk.{Node, dead, full, ends, Outcome, solved, nothing, budget, outcome, nodes}
+use Rattle.el.specs.Walk.{Node, dead, full, ends, solved, nothing, budget, outcome}
 use Rattle.el.specs.ScanLaws.{scan, scan-end, scan-spent, scan-solved, scan-on, scan-means}
-use Rattle.el.specs.StepLaws.{remaining, afterwards, remaining-start, remaining-dead, remaining-full, remaining-down, remaining-first, afterwards-hit, afterwards-miss, afterwards-end}
+use Rattle.el.specs.StepLaws.{remaining, afterwards, remaining-start, remaining-dead, remaining-down, remaining-first, afterwards-hit, afterwards-miss, afterwards-end}
 use Rattle.node.specs.declared.Sets.{Sets}
 use Rattle.table.specs.Reading.{byteAt, reading, isReadable, tableOf}
-use Rattle.table.specs.Layout.{Layout}
 use Rattle.table.specs.LayoutLaws.{layout}
 use Rattle.node.specs.Node.{nodeOf, Clean, NodeGiven, Prepares}
 use Rattle.node.specs.SquareLaws.{clean-next, clean-up, length-node}
@@ -56,6 +60,11 @@ kin-child : (t : Table) (sets to : Sets) → sets .chosen < length (sets .set) �
 unfolding Kin
 kin-child t sets to h w p q =
     (omega arith, subst (λ (x : ℕ). x < 2 ^ atoms t) (sym (ap₂ (λ (l : List ℕ) (i : ℕ). getD l i 0) p (let z : to .chosen - 1 ≡ sets .chosen = omega arith in z) ∙ getD-set-same (sets .set) (sets .chosen) 0 0 h)) w)
+
+-- a node on the way has a parent
+pub kin-some : (t : Table) (sets : Sets) → Kin t sets → 0 < sets .chosen
+unfolding Kin
+kin-some t sets kin = kin .0
 
 pub goes-start : (t : Table) (a : List ℕ) (k : ℕ) → Goes t a k a k
 unfolding Goes
@@ -162,9 +171,6 @@ module _ (s : List ℕ) (c e v m last : ℕ) (given : Given s c e v m last) wher
       let l = layout s (given .readable) in let a : tableOf s .variables ≡ byteAt s 7 = l .variables in let b : v ≡ byteAt s 7 = given .variables in
       let f : byteAt s 7 ≤ 12 = l .few-variables in (omega arith, omega arith)
 
-  pub given-some : 0 < 2 ^ atoms (tableOf s)
-  given-some = let w : 2 ^ atoms (tableOf s) ≡ last + 1 = given .width in omega arith
-
   pub given-chosen : (a : List ℕ) (k : ℕ) → SoundAt (tableOf s) a k → k ≤ v
   unfolding SoundAt
   given-chosen a k sound = let h : k ≤ tableOf s .variables = sound .0 in let q = given-variables in omega arith
@@ -244,6 +250,13 @@ module _ (p : Node → Bool) (b n : ℕ) (more : n < b) where
 
   turn-over : (l : List Node) (s : Node) → l ≡ s ∷ [] → p s ≡ false → scan p (b - n) n l ≡ nothing (n + 1)
   turn-over l s e h = turn-on l [] s e h ∙ scan-end p (b - (n + 1)) (n + 1) [] refl
+
+-- the start, at the root
+pub walked-start : (t : Table) (b : ℕ) (sets : Sets) → sets .chosen ≡ 0 → outcome sameRole t b ≡ scan (ends sameRole t) (b - 0) 0 (rest t sets)
+unfolding rest
+walked-start t b sets e =
+    scan-means sameRole t b
+    ∙ ap₂ (λ (k : ℕ) (l : List Node). scan (ends sameRole t) k 0 l) (sym (sub-zero b)) (remaining-start sameRole t (sets .set) ∙ ap (remaining sameRole t (sets .set)) (sym e))
 
 -- the outcome, after the step that examined the node of `sets`
 module _ (t : Table) (b n : ℕ) (sets : Sets) (inv : outcome sameRole t b ≡ scan (ends sameRole t) (b - n) n (rest t sets)) where
@@ -391,15 +404,3 @@ module _ (t : Table) (v b n : ℕ) (sets : Sets) (more : n < b) (inv : outcome s
   pub gone-on : gone .going ≡ On
       → SoundAt t (gone .sets .set) (gone .sets .chosen) × Kin t (gone .sets) × (outcome sameRole t b ≡ scan (ends sameRole t) (b - (n + gone .passed)) (n + gone .passed) (rest t (gone .sets)))
   gone-on e = gone-as On e
-
--- a node on the way has a parent
-pub kin-some : (t : Table) (sets : Sets) → Kin t sets → 0 < sets .chosen
-unfolding Kin
-kin-some t sets kin = kin .0
-
--- the start, at the root
-pub walked-start : (t : Table) (b : ℕ) (sets : Sets) → sets .chosen ≡ 0 → outcome sameRole t b ≡ scan (ends sameRole t) (b - 0) 0 (rest t sets)
-unfolding rest
-walked-start t b sets e =
-    scan-means sameRole t b
-    ∙ ap₂ (λ (k : ℕ) (l : List Node). scan (ends sameRole t) k 0 l) (sym (sub-zero b)) (remaining-start sameRole t (sets .set) ∙ ap (remaining sameRole t (sets .set)) (sym e))

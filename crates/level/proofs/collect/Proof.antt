@@ -1,17 +1,14 @@
 -- `level::collect` meets its contract. The invariant: of the first n lines those that pass are listed. The measure is what is left of m.
-use mathlib.Core.Path.{_≡_, refl, sym, ap, subst, _∙_}
+use mathlib.Core.Path.{_≡_, refl, sym, _∙_}
 use mathlib.Core.Logic.{⊎-elim}
-use Prim.Native.Nat.{ℕ, _-_, _≤_}
+use Prim.Native.Nat.{_-_, _≤_}
 use native.Mathlib.Omega.{arith}
-use lib.ListN.{length, length-set}
+use lib.ListN.{length}
 use Rattle.level.specs.Level.{isFresh, Listed}
 use Rattle.level.specs.LevelLaws.{listed-start, turn-more, turn-skip, listed-whole}
 use borrow.Author.Needs.{needs}
 use Rattle.level.proofs.collect.Statement.{statement}
 use Rattle.level.proofs.collect.Tie as tie
-use Rattle.level.proofs.collect.Reads as reads
-use Rattle.level.proofs.collect.Lts as lts
-use Rattle.level.proofs.passes.Reads as passes-reads
 
 abbrev Inv-loop : tie.InvT-loop
 Inv-loop mask m about near square fresh₀ few₀ n₀ fresh few n =

@@ -1,18 +1,13 @@
 -- `level::fresh_fails` meets its contract. The invariant: none of the first i lines listed fails. The measure is what is left of them.
-use mathlib.Core.Path.{_≡_, refl, sym, ap, _∙_}
-use mathlib.Core.Bool.{false, not}
-use Prim.Native.Nat.{ℕ, _-_, _≤_}
+use mathlib.Core.Path.{_≡_}
+use mathlib.Core.Bool.{false}
+use Prim.Native.Nat.{_-_, _≤_}
 use native.Mathlib.Omega.{arith}
-use lib.ListN.{length, getD}
 use Rattle.level.specs.Level.{freshFails}
 use Rattle.level.specs.LevelLaws.{lines-start, lines-fail, lines-next, lines-whole, fresh-in, fresh-line}
 use borrow.Author.Needs.{needs}
 use Rattle.level.proofs.fresh_fails.Statement.{statement}
 use Rattle.level.proofs.fresh_fails.Tie as tie
-use Rattle.level.proofs.fresh_fails.Reads as reads
-use Rattle.level.proofs.fresh_fails.Lts as lts
-use Rattle.order.proofs.line_holds.Reads as line-holds-reads
-use Rattle.table.proofs.wide.Reads as wide-reads
 
 abbrev Inv-loop : tie.InvT-loop
 Inv-loop table start fresh few c e v set i₀ i = (i ≤ few) × (freshFails table set fresh i ≡ false)

@@ -1,8 +1,6 @@
 -- `level::is_dead` meets its contract: a law for each of its three ends.
-use mathlib.Core.Path.{_≡_, _∙_}
-use Prim.Native.Nat.{_≤_, _<_}
+use mathlib.Core.Path.{_∙_}
 use native.Mathlib.Omega.{arith}
-use lib.ListN.{length}
 use Rattle.node.specs.Node.{nodeOf}
 use Rattle.node.specs.NodeTestLaws.{node-few}
 use Rattle.level.specs.Level.{setsOf, levelOf}
@@ -10,9 +8,6 @@ use Rattle.level.specs.LevelLaws.{dead-cycle, dead-open, below-given, de
 use borrow.Author.Needs.{needs}
 use Rattle.level.proofs.is_dead.Statement.{statement}
 use Rattle.level.proofs.is_dead.Tie as tie
-use Rattle.level.proofs.is_dead.Reads as reads
-use Rattle.level.proofs.is_dead.Lts as lts
-use Rattle.level.proofs.fresh_fails.Reads as fresh-fails-reads
 
 -- src/lib.rt:178:17
 sub-x : tie.Need-sub-x

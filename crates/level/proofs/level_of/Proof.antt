@@ -1,6 +1,5 @@
 -- `level::level_of` meets its contract: the square of the parent, its two masks, and the lines that pass.
 use mathlib.Core.Path.{_≡_, refl}
-use Prim.Native.Nat.{_≤_, _<_}
 use native.Mathlib.Omega.{arith}
 use lib.ListN.{length}
 use Rattle.node.specs.NodeTestLaws.{node-few}
@@ -8,13 +7,6 @@ use Rattle.level.specs.LevelLaws.{parent-needs, parent-shows, few-lines,
 use borrow.Author.Needs.{needs}
 use Rattle.level.proofs.level_of.Statement.{statement}
 use Rattle.level.proofs.level_of.Tie as tie
-use Rattle.level.proofs.level_of.Reads as reads
-use Rattle.level.proofs.level_of.Lts as lts
-use Rattle.level.proofs.collect.Reads as collect-reads
-use Rattle.level.proofs.ways_of.Reads as ways-of-reads
-use Rattle.node.proofs.leads_mask.Reads as leads-mask-reads
-use Rattle.node.proofs.settled_mask.Reads as settled-mask-reads
-use Rattle.node.proofs.square_of.Reads as square-of-reads
 
 -- src/lib.rt:72:13
 sub-y : tie.Need-sub-y

@@ -1,9 +1,8 @@
 -- `level::newly_mask` meets its contract. The invariant: the mask has what the first z variables lead to. The measure is what is left of n.
-use mathlib.Core.Path.{_≡_, ap, _∙_}
+use mathlib.Core.Path.{ap, _∙_}
 use mathlib.Core.Logic.{⊎-elim}
-use Prim.Native.Nat.{ℕ, _-_, _≤_}
+use Prim.Native.Nat.{_-_, _≤_}
 use native.Mathlib.Omega.{arith}
-use lib.ListN.{length}
 use Rattle.el.specs.Test.{bit}
 use Rattle.node.specs.Node.{Masks}
 use Rattle.order.specs.BitLaws.{bit-on, bit-off}
@@ -12,8 +11,6 @@ use Rattle.level.specs.LevelLaws.{new-start, new-more, new-skip, new-emp
 use borrow.Author.Needs.{needs}
 use Rattle.level.proofs.newly_mask.Statement.{statement}
 use Rattle.level.proofs.newly_mask.Tie as tie
-use Rattle.level.proofs.newly_mask.Reads as reads
-use Rattle.level.proofs.newly_mask.Lts as lts
 
 abbrev Inv-loop : tie.InvT-loop
 Inv-loop row n direct mask₀ z₀ mask z = (z ≤ n) × Masks (newBy row direct z) mask

@@ -2,8 +2,6 @@
 use Rattle.level.specs.LevelLaws.{fresh-none, fresh-some}
 use Rattle.level.proofs.passes.Statement.{statement}
 use Rattle.level.proofs.passes.Tie as tie
-use Rattle.level.proofs.passes.Reads as reads
-use Rattle.level.proofs.passes.Lts as lts
 
 -- src/lib.rt:43:9
 returns : tie.Need-returns

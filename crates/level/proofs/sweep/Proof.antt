@@ -1,20 +1,17 @@
 -- `level::sweep` meets its contract. The invariant: so many siblings are passed, all dead, and the list holds the next. The measure is
 -- what is left of those allowed.
-use mathlib.Core.Path.{_≡_, refl, sym, ap, _∙_}
-use Prim.Native.Nat.{ℕ, _+_, _-_, _≤_, _<_}
+use mathlib.Core.Path.{_≡_, refl}
+use Prim.Native.Nat.{_-_, _≤_}
 use native.Mathlib.Omega.{arith}
 use lib.ListN.{length, length-set}
 use borrow.Author.Tests.{not-true, not-false}
 use Rattle.table.specs.Reading.{tableOf}
 use Rattle.node.specs.NodeTestLaws.{node-few}
-use Rattle.level.specs.Level.{setsOf, ChildGiven}
+use Rattle.level.specs.Level.{ChildGiven}
 use Rattle.level.specs.SweepLaws.{At, at-start, at-child, at-next, swept-live, swept-over, swept-spent}
 use borrow.Author.Needs.{needs}
 use Rattle.level.proofs.sweep.Statement.{statement}
 use Rattle.level.proofs.sweep.Tie as tie
-use Rattle.level.proofs.sweep.Reads as reads
-use Rattle.level.proofs.sweep.Lts as lts
-use Rattle.level.proofs.is_dead.Reads as is-dead-reads
 
 abbrev Inv-loop : tie.InvT-loop
 Inv-loop table start c e v m last most k y turning leaving fresh few set₀ passed₀ set passed =

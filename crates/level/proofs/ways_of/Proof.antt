@@ -1,18 +1,13 @@
 -- `level::ways_of` meets its contract. The invariant: the atoms of the first k restrictions are marked. The measure is what is left of them.
-use mathlib.Core.Path.{_≡_, refl}
-use Prim.Native.Nat.{ℕ, _+_, _-_, _≤_, _<_}
+use mathlib.Core.Path.{refl}
+use Prim.Native.Nat.{_-_, _≤_}
 use native.Mathlib.Omega.{arith}
-use lib.ListN.{length}
 use Rattle.el.specs.Test.{bit}
 use Rattle.level.specs.Level.{Back, Out, WaysTo}
 use Rattle.level.specs.LevelLaws.{ways-start, ways-more, ways-whole, back-some, back-all, out-some, out-all}
 use borrow.Author.Needs.{needs}
 use Rattle.level.proofs.ways_of.Statement.{statement}
 use Rattle.level.proofs.ways_of.Tie as tie
-use Rattle.level.proofs.ways_of.Reads as reads
-use Rattle.level.proofs.ways_of.Lts as lts
-use Rattle.level.proofs.newly_mask.Reads as newly-mask-reads
-use Rattle.level.proofs.with_bit.Reads as with-bit-reads
 
 abbrev Inv-loop : tie.InvT-loop
 Inv-loop fill c e y row turning₀ leaving₀ k₀ turning leaving k = (k ≤ e) × WaysTo (Back y) fill row c y k turning × WaysTo (Out y) fill row c y k leaving

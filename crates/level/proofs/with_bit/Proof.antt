@@ -3,8 +3,6 @@ use Rattle.level.specs.LevelLaws.{bit-added, bit-kept}
 use borrow.Author.Needs.{needs}
 use Rattle.level.proofs.with_bit.Statement.{statement}
 use Rattle.level.proofs.with_bit.Tie as tie
-use Rattle.level.proofs.with_bit.Reads as reads
-use Rattle.level.proofs.with_bit.Lts as lts
 
 -- src/lib.rt:56:32
 cast-result : tie.Need-cast-result

@@ -5,9 +5,6 @@ use Rattle.makrothel.specs.Solve.{answered}
 use Rattle.makrothel.proofs.Laws.{finish-found, finish-nothing, finish-spent}
 use Rattle.makrothel.proofs.finish.Statement.{statement}
 use Rattle.makrothel.proofs.finish.Tie as tie
-use Rattle.makrothel.proofs.finish.Reads as reads
-use Rattle.makrothel.proofs.finish.Lts as lts
-use Rattle.output.proofs.put_all.Reads as put-all-reads
 
 -- src/lib.rt:90:17
 enum-told : tie.Need-enum-told

@@ -1,6 +1,6 @@
 -- `makrothel::solve` meets its contract: refused, too short, or walked.
 use borrow.Author.Needs.{needs}
-use mathlib.Core.Path.{_≡_, sym, ap, _∙_}
+use mathlib.Core.Path.{sym, ap, _∙_}
 use native.Mathlib.Omega.{arith}
 use Rattle.el.specs.Walk.{Outcome}
 use Rattle.table.specs.LayoutLaws.{layout, readable-is}
@@ -8,12 +8,6 @@ use Rattle.makrothel.specs.Solve.{answered, outcomeAs}
 use Rattle.makrothel.proofs.Laws.{header-there, solve-refused, solve-short, solve-walked}
 use Rattle.makrothel.proofs.solve.Statement.{statement}
 use Rattle.makrothel.proofs.solve.Tie as tie
-use Rattle.makrothel.proofs.solve.Reads as reads
-use Rattle.makrothel.proofs.solve.Lts as lts
-use Rattle.makrothel.proofs.finish.Reads as finish-reads
-use Rattle.table.proofs.check.Reads as check-reads
-use Rattle.table.proofs.wide.Reads as wide-reads
-use Rattle.walk.proofs.walk.Reads as walk-reads
 
 -- src/lib.rt:117:11
 check-requires : tie.Need-check-requires

@@ -9,9 +9,6 @@ use Rattle.output.specs.Written.{written}
 use Rattle.output.proofs.Laws.{written-length, written-none, turn, part-room}
 use Rattle.output.proofs.put_all.Statement.{statement}
 use Rattle.output.proofs.put_all.Tie as tie
-use Rattle.output.proofs.put_all.Reads as reads
-use Rattle.output.proofs.put_all.Lts as lts
-use Rattle.output.proofs.put_set.Reads as put-set-reads
 
 abbrev Inv-loop : tie.InvT-loop
 Inv-loop out₀ n set i₀ out i = (i ≤ n) × (length out ≡ length out₀) × (out ≡ written (take i set) out₀)

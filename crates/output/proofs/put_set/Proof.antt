@@ -5,8 +5,6 @@ use lib.ListN.{length-set}
 use Rattle.output.proofs.Laws.{put-four}
 use Rattle.output.proofs.put_set.Statement.{statement}
 use Rattle.output.proofs.put_set.Tie as tie
-use Rattle.output.proofs.put_set.Reads as reads
-use Rattle.output.proofs.put_set.Lts as lts
 
 -- src/lib.rt:13:15
 cast-part : tie.Need-cast-part

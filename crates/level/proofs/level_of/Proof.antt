@@ -8,51 +8,39 @@ use borrow.Author.Needs.{needs}
 use Rattle.level.proofs.level_of.Statement.{statement}
 use Rattle.level.proofs.level_of.Tie as tie
 
--- src/lib.rt:72:13
 sub-y : tie.Need-sub-y
 sub-y c = search needs
 
--- src/lib.rt:73:5
 mul-set : tie.Need-mul-set
 mul-set c = (let h = node-few _ _ _ _ _ (c .before .before .before .before .before .before .args .sets) (c .before .before .before .before .before .before .pre .0) in search needs)
 
--- src/lib.rt:73:5
 array-write-set : tie.Need-array-write-set
 array-write-set c = (let h = node-few _ _ _ _ _ (c .before .before .before .before .before .before .args .sets) (c .before .before .before .before .before .before .pre .0) in search needs)
 
--- src/lib.rt:74:9
 square-of-requires : tie.Need-square-of-requires
 square-of-requires c κs = (let n : length (c .before .before .before .before .before .before .args .sets .set) ≡ 12 = search needs in parent-needs _ _ _ _ _ (c .before .before .before .before .before .before .args .sets) (c .before .before .before .before .before .before .pre .0) (c .before .before .before .before .before .before .pre .2) n _ _ _ (c .before .before .before .before .before .before .pre .1))
 
--- src/lib.rt:75:17
 leads-mask-requires : tie.Need-leads-mask-requires
 leads-mask-requires c κs = (let h = node-few _ _ _ _ _ (c .before .before .before .before .before .before .before .args .sets) (c .before .before .before .before .before .before .before .pre .0) in (omega arith, omega arith))
 
--- src/lib.rt:75:59
 cast-about : tie.Need-cast-about
 cast-about c = (let h = node-few _ _ _ _ _ (c .before .before .before .before .before .before .before .before .args .sets) (c .before .before .before .before .before .before .before .before .pre .0) in search needs)
 
--- src/lib.rt:75:51
 shl-about : tie.Need-shl-about
 shl-about c = (let h = node-few _ _ _ _ _ (c .before .before .before .before .before .before .before .before .args .sets) (c .before .before .before .before .before .before .before .before .pre .0) in search needs)
 
--- src/lib.rt:76:43
 add-settled-mask : tie.Need-add-settled-mask
 add-settled-mask c = search needs
 
--- src/lib.rt:76:9
 settled-mask-requires : tie.Need-settled-mask-requires
 settled-mask-requires c κs = (let h = node-few _ _ _ _ _ (c .before .before .before .before .before .before .before .before .args .sets) (c .before .before .before .before .before .before .before .before .pre .0) in omega arith)
 
--- src/lib.rt:150:9
 ways-of-requires : tie.Need-ways-of-requires
 ways-of-requires c κs = (let n : length (c .before .before .before .before .before .before .before .before .before .args .sets .set) ≡ 12 = search needs in let h = node-few _ _ _ _ _ (c .before .before .before .before .before .before .before .before .before .args .sets) (c .before .before .before .before .before .before .before .before .before .pre .0) in let q = parent-needs _ _ _ _ _ (c .before .before .before .before .before .before .before .before .before .args .sets) (c .before .before .before .before .before .before .before .before .before .pre .0) (c .before .before .before .before .before .before .before .before .before .pre .2) n _ _ _ (c .before .before .before .before .before .before .before .before .before .pre .1) in (q .0, q .1, omega arith))
 
--- src/lib.rt:151:5
 collect-requires : tie.Need-collect-requires
 collect-requires c κs = (let n : length (c .before .before .before .before .before .before .before .before .before .before .args .sets .set) ≡ 12 = (let g = c .before .before .before .before .before .before .before .before .before .before .good .1 .1 .1 .1 .1 .1 .1 .1 in search (needs, g)) in few-lines _ _ _ _ _ (c .before .before .before .before .before .before .before .before .before .before .args .sets) (c .before .before .before .before .before .before .before .before .before .before .pre .0) (c .before .before .before .before .before .before .before .before .before .before .pre .2) n _ _ _ (c .before .before .before .before .before .before .before .before .before .before .pre .1))
 
--- src/lib.rt:130:1
 returns : tie.Need-returns
 returns c =
     (let n : length (c .before .before .before .before .before .before .before .before .before .before .before .args .sets .set) ≡ 12 = (let g = c .before .before .before .before .before .before .before .before .before .before .before .good .1 .1 .1 .1 .1 .1 .1 .1 in search (needs, g)) in

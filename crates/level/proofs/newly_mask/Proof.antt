@@ -18,39 +18,30 @@ Inv-loop row n direct mask₀ z₀ mask z = (z ≤ n) × Masks (newBy row direct
 abbrev μ-loop : tie.MeasureT-loop
 μ-loop row n direct mask₀ z₀ mask z = n - z
 
--- src/lib.rt:38:9
 returns : tie.Need-returns Inv-loop μ-loop
 returns c = new-empty _ _ _ (c .if1 .taken)
 
--- src/lib.rt:42:5
 loop-holds : tie.Need-loop-holds Inv-loop μ-loop
 loop-holds c = (omega arith, new-start _ _)
 
--- src/lib.rt:43:23
 cast-if2 : tie.Need-cast-if2 Inv-loop μ-loop
 cast-if2 c = search needs
 
--- src/lib.rt:43:13
 shr-if2 : tie.Need-shr-if2 Inv-loop μ-loop
 shr-if2 c = search needs
 
--- src/lib.rt:44:27
 mul-mask : tie.Need-mul-mask Inv-loop μ-loop
 mul-mask c = search needs
 
--- src/lib.rt:44:27
 shared-slice-read-mask : tie.Need-shared-slice-read-mask Inv-loop μ-loop
 shared-slice-read-mask c = search needs
 
--- src/lib.rt:46:9
 add-z : tie.Need-add-z Inv-loop μ-loop
 add-z c = search needs
 
--- src/lib.rt:42:5
 loop-less : tie.Need-loop-less Inv-loop μ-loop
 loop-less c = search needs
 
--- src/lib.rt:42:5
 loop-again : tie.Need-loop-again Inv-loop μ-loop
 loop-again c = (
   omega arith,
@@ -60,7 +51,6 @@ loop-again c = (
       (c .if2 .came),
 )
 
--- src/lib.rt:33:1
 returns-2 : tie.Need-returns-2 Inv-loop μ-loop
 returns-2 c = new-whole _ _ _ _ _ (c .before .loop .inv .0) (c .loop-test .left) (c .before .loop .inv .1)
 

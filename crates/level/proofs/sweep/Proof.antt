@@ -20,75 +20,57 @@ Inv-loop table start c e v m last most k y turning leaving fresh few set₀ pass
 abbrev μ-loop : tie.MeasureT-loop
 μ-loop table start c e v m last most k y turning leaving fresh few set₀ passed₀ set passed = most - passed
 
--- src/lib.rt:191:13
 sub-y : tie.Need-sub-y Inv-loop μ-loop
 sub-y c = (let g = c .before .before .pre .child (search needs) in let h = node-few _ _ _ _ _ (c .before .before .args .sets) (g .node) in let z = g .some in let w = c .before .before .pre .narrow in search needs)
 
--- src/lib.rt:197:5
 loop-holds : tie.Need-loop-holds Inv-loop μ-loop
 loop-holds c = (let g = c .before .before .before .before .pre .child (search needs) in (omega arith, g .room, at-start _ _ _ _ (c .before .before .before .before .pre .first), g))
 
--- src/lib.rt:198:17
 mul-x : tie.Need-mul-x Inv-loop μ-loop
 mul-x c = (let g = c .before .loop .inv .3 in let h = node-few _ _ _ _ _ (c .before .before .before .before .before .before .args .sets) (g .node) in let z = g .some in let w = c .before .before .before .before .before .before .pre .narrow in search needs)
 
--- src/lib.rt:198:17
 array-read-x : tie.Need-array-read-x Inv-loop μ-loop
 array-read-x c = (let g = c .before .loop .inv .3 in let h = node-few _ _ _ _ _ (c .before .before .before .before .before .before .args .sets) (g .node) in let z = g .some in let w = c .before .before .before .before .before .before .pre .narrow in search needs)
 
--- src/lib.rt:199:9
 add-passed : tie.Need-add-passed Inv-loop μ-loop
 add-passed c = search needs
 
--- src/lib.rt:200:41
 slice-aggregate-is-dead : tie.Need-slice-aggregate-is-dead Inv-loop μ-loop
 slice-aggregate-is-dead c = search needs
 
--- src/lib.rt:200:47
 slice-aggregate-is-dead-2 : tie.Need-slice-aggregate-is-dead-2 Inv-loop μ-loop
 slice-aggregate-is-dead-2 c = search needs
 
--- src/lib.rt:200:13
 is-dead-requires : tie.Need-is-dead-requires Inv-loop μ-loop
 is-dead-requires c κs = at-child _ _ _ _ _ _ _ _ _ _ _ _ (c .before .before .before .loop .inv .3) _ _ _ (c .before .before .before .loop .inv .2)
 
--- src/lib.rt:201:13
 returns : tie.Need-returns Inv-loop μ-loop
 returns c = swept-live _ _ _ _ _ _ _ _ _ _ _ _ (c .before .before .before .before .before .loop .inv .3) _ _ _ (c .before .before .before .before .before .loop .inv .2) _ refl _ _ (c .before .before .before .before .loop-test .taken) (c .before .is-dead .ensures) (not-true _ (c .if1 .taken))
 
--- src/lib.rt:208:13
 returns-2 : tie.Need-returns-2 Inv-loop μ-loop
 returns-2 c = swept-over _ _ _ _ _ _ _ _ _ _ _ _ (c .before .before .before .before .before .before .loop .inv .3) _ _ _ (c .before .before .before .before .before .before .loop .inv .2) _ refl _ _ (c .before .before .before .before .before .loop-test .taken) (c .before .before .is-dead .ensures) (not-false _ (c .before .if1 .left)) (c .if2 .taken)
 
--- src/lib.rt:214:18
 add-set : tie.Need-add-set Inv-loop μ-loop
 add-set c = (let g = c .before .before .before .before .before .before .loop .inv .3 in let h = node-few _ _ _ _ _ (c .before .before .before .before .before .before .before .before .before .before .before .args .sets) (g .node) in let z = g .some in let w = c .before .before .before .before .before .before .before .before .before .before .before .pre .narrow in search needs)
 
--- src/lib.rt:214:9
 mul-set : tie.Need-mul-set Inv-loop μ-loop
 mul-set c = (let g = c .before .before .before .before .before .before .loop .inv .3 in let h = node-few _ _ _ _ _ (c .before .before .before .before .before .before .before .before .before .before .before .args .sets) (g .node) in let z = g .some in let w = c .before .before .before .before .before .before .before .before .before .before .before .pre .narrow in search needs)
 
--- src/lib.rt:214:9
 array-write-set : tie.Need-array-write-set Inv-loop μ-loop
 array-write-set c = (let g = c .before .before .before .before .before .before .loop .inv .3 in let h = node-few _ _ _ _ _ (c .before .before .before .before .before .before .before .before .before .before .before .args .sets) (g .node) in let z = g .some in let w = c .before .before .before .before .before .before .before .before .before .before .before .pre .narrow in search needs)
 
--- src/lib.rt:197:5
 loop-less : tie.Need-loop-less Inv-loop μ-loop
 loop-less c = search needs
 
--- src/lib.rt:197:5
 loop-again : tie.Need-loop-again Inv-loop μ-loop
 loop-again c = (omega arith, simp length-set (c .before .before .before .before .before .before .loop .inv .1), at-next _ _ _ _ _ _ _ _ _ _ _ _ (c .before .before .before .before .before .before .loop .inv .3) _ _ _ (c .before .before .before .before .before .before .loop .inv .2) _ refl _ (c .before .before .is-dead .ensures) (not-false _ (c .before .if1 .left)) (omega arith), c .before .before .before .before .before .before .loop .inv .3)
 
--- src/lib.rt:216:14
 mul-at : tie.Need-mul-at Inv-loop μ-loop
 mul-at c = (let g = c .before .loop .inv .3 in let h = node-few _ _ _ _ _ (c .before .before .before .before .before .before .args .sets) (g .node) in let z = g .some in let w = c .before .before .before .before .before .before .pre .narrow in search needs)
 
--- src/lib.rt:216:14
 array-read-at : tie.Need-array-read-at Inv-loop μ-loop
 array-read-at c = (let g = c .before .loop .inv .3 in let h = node-few _ _ _ _ _ (c .before .before .before .before .before .before .args .sets) (g .node) in let z = g .some in let w = c .before .before .before .before .before .before .pre .narrow in search needs)
 
--- src/lib.rt:174:1
 returns-3 : tie.Need-returns-3 Inv-loop μ-loop
 returns-3 c = swept-spent _ _ _ _ _ _ _ _ _ _ _ _ (c .before .loop .inv .3) _ _ _ (c .before .loop .inv .2) _ refl _ (c .before .loop .inv .0) (c .loop-test .left)
 

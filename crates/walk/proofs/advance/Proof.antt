@@ -6,47 +6,37 @@ use borrow.Author.Needs.{needs}
 use Rattle.walk.proofs.advance.Statement.{statement}
 use Rattle.walk.proofs.advance.Tie as tie
 
--- src/lib.rt:134:9
 sweep-requires : tie.Need-sweep-requires
 sweep-requires c κs = search needs
 
--- src/lib.rt:135:9
 moved-requires : tie.Need-moved-requires
 moved-requires c κs = (let p = c .before .before .before .pre in let g = p .0 .1 .child (search needs) in (g .some, let q = given-variables _ _ _ _ _ _ (p .0 .0) in let h = given-chosen _ _ _ _ _ _ (p .0 .0) _ _ (p .1 .0) in omega arith))
 
--- src/lib.rt:140:17
 enum-told : tie.Need-enum-told
 enum-told c = search needs
 
--- src/lib.rt:140:17
 look-requires : tie.Need-look-requires
 look-requires c κs = (let p = c .before .before .before .before .before .before .pre in let q = given-variables _ _ _ _ _ _ (p .0 .0) in let h = given-chosen _ _ _ _ _ _ (p .0 .0) _ _ (p .1 .0) in let e = c .before .before .moved .ensures .1 in (q .1, omega arith, p .0 .0 .narrow))
 
--- src/lib.rt:150:17
 enum-told-2 : tie.Need-enum-told-2
 enum-told-2 c = search needs
 
--- src/lib.rt:150:17
 look-requires-2 : tie.Need-look-requires-2
 look-requires-2 c κs = (let p = c .before .before .before .before .before .before .pre in let q = given-variables _ _ _ _ _ _ (p .0 .0) in let h = given-chosen _ _ _ _ _ _ (p .0 .0) _ _ (p .1 .0) in let e = c .before .before .moved .ensures .1 in (q .1, omega arith, p .0 .0 .narrow))
 
--- src/lib.rt:160:20
 enum-told-3 : tie.Need-enum-told-3
 enum-told-3 c = search needs
 
--- src/lib.rt:117:1
 returns : tie.Need-returns
 returns c =
     (let p = c .before .before .before .before .before .before .before .before .pre in let q = given-variables _ _ _ _ _ _ (p .0 .0) in let z = c .before .before .before .before .before .before .before .before .good in let g = p .0 .1 .child (search (needs, z .1 .1 .1 .1 .1 .1 .1 .0)) in let k = g .room in let h = given-chosen _ _ _ _ _ _ (p .0 .0) _ _ (p .1 .0) in
     advanced-live _ _ (p .0 .0 .width) (c .before .before .before .before .before .before .before .before .args .sets) (g .some) (omega arith) _ (sym (q .0)) (p .1 .0) _ (c .before .before .before .before .before .sweep .result) (c .before .before .before .before .before .sweep .ensures) (c .before .before .before .before .moved .result) (c .before .before .before .before .moved .ensures .0) (c .before .before .before .before .moved .ensures .1) (c .before .look .result) _ (λ s d. c .before .look .ensures _ (sym (q .0)) (p .0 .0 .width) s d) refl (c .before .before .enum-told .given .1))
 
--- src/lib.rt:117:1
 returns-2 : tie.Need-returns-2
 returns-2 c =
     (let p = c .before .before .before .before .before .before .before .before .pre in let q = given-variables _ _ _ _ _ _ (p .0 .0) in let z = c .before .before .before .before .before .before .before .before .good in let g = p .0 .1 .child (search (needs, z .1 .1 .1 .1 .1 .1 .1 .0)) in let k = g .room in let h = given-chosen _ _ _ _ _ _ (p .0 .0) _ _ (p .1 .0) in
     advanced-over _ _ (p .0 .0 .width) (c .before .before .before .before .before .before .before .before .args .sets) (g .some) (omega arith) _ (sym (q .0)) (p .1 .0) _ (c .before .before .before .before .before .sweep .result) (c .before .before .before .before .before .sweep .ensures) (c .before .before .before .before .moved .result) (c .before .before .before .before .moved .ensures .0) (c .before .before .before .before .moved .ensures .1) (c .before .look2 .result) _ (λ s d. c .before .look2 .ensures _ (sym (q .0)) (p .0 .0 .width) s d) refl (c .before .before .enum-told2 .given .1))
 
--- src/lib.rt:117:1
 returns-3 : tie.Need-returns-3
 returns-3 c =
     (let p = c .before .before .before .before .before .before .pre in let q = given-variables _ _ _ _ _ _ (p .0 .0) in let z = c .before .before .before .before .before .before .good in let g = p .0 .1 .child (search (needs, z .1 .1 .1 .1 .1 .1 .1 .0)) in let k = g .room in let h = given-chosen _ _ _ _ _ _ (p .0 .0) _ _ (p .1 .0) in

@@ -7,19 +7,15 @@ use borrow.Author.Needs.{needs}
 use Rattle.walk.proofs.last_set.Statement.{statement}
 use Rattle.walk.proofs.last_set.Tie as tie
 
--- src/lib.rt:156:14
 cast-result : tie.Need-cast-result
 cast-result c = search needs
 
--- src/lib.rt:156:6
 shl-result : tie.Need-shl-result
 shl-result c = search needs
 
--- src/lib.rt:152:1
 returns : tie.Need-returns
 returns c = rw (power-fits (c .args .n) (omega arith)) (let h : 0 < 2 ^ c .args .n = pow-pos (c .args .n) in omega arith)
 
--- src/lib.rt:156:5
 sub-result : tie.Need-sub-result
 sub-result c = rw (power-fits (c .args .n) (omega arith)) (pow-pos (c .args .n))
 

@@ -8,27 +8,22 @@ use borrow.Author.Needs.{needs}
 use Rattle.walk.proofs.look.Statement.{statement}
 use Rattle.walk.proofs.look.Tie as tie
 
--- src/lib.rt:106:9
 next-node-requires : tie.Need-next-node-requires
 next-node-requires c κs = search needs
 
--- src/lib.rt:106:9
 returns : tie.Need-returns
 unfolding Looked Next deadAt
 returns c =
     λ t hv hw s d. (let a = c .before .before .args in let p = c .before .before .pre in let n : length (a .sets .set) ≡ 12 = search needs in
     looked-dead t (a .sets) (omega arith) (c .next-node .result .going) (c .next-node .result .sets) (sym d ∙ c .before .if1 .taken) s (c .next-node .ensures t hw))
 
--- src/lib.rt:110:9
 returns-2 : tie.Need-returns-2
 unfolding Looked deadAt
 returns-2 c = λ t hv hw s d. (let a = c .before .before .args in let p = c .before .before .pre in let n : length (a .sets .set) ≡ 12 = search needs in looked-solved t (a .sets) (omega arith) (sym d ∙ c .before .if1 .left) (omega arith))
 
--- src/lib.rt:117:15
 child-requires : tie.Need-child-requires
 child-requires c κs = search needs
 
--- src/lib.rt:101:1
 returns-3 : tie.Need-returns-3
 unfolding Looked deadAt
 returns-3 c =

@@ -17,60 +17,46 @@ Inv-loop last set₀ k₀ set k =
 abbrev μ-loop : tie.MeasureT-loop
 μ-loop last set₀ k₀ set k = k
 
--- src/lib.rt:40:5
 loop-holds : tie.Need-loop-holds Inv-loop μ-loop
 loop-holds c = (search needs, omega arith, omega arith, λ t e. goes-start t _ _)
 
--- src/lib.rt:41:21
 sub-x : tie.Need-sub-x Inv-loop μ-loop
 sub-x c = search needs
 
--- src/lib.rt:41:17
 mul-x : tie.Need-mul-x Inv-loop μ-loop
 mul-x c = search needs
 
--- src/lib.rt:41:17
 array-read-x : tie.Need-array-read-x Inv-loop μ-loop
 array-read-x c = search needs
 
--- src/lib.rt:43:26
 add-set : tie.Need-add-set Inv-loop μ-loop
 add-set c = search needs
 
--- src/lib.rt:43:17
 sub-set : tie.Need-sub-set Inv-loop μ-loop
 sub-set c = search needs
 
--- src/lib.rt:43:13
 mul-set : tie.Need-mul-set Inv-loop μ-loop
 mul-set c = search needs
 
--- src/lib.rt:43:13
 array-write-set : tie.Need-array-write-set Inv-loop μ-loop
 array-write-set c = search needs
 
--- src/lib.rt:44:13
 returns : tie.Need-returns Inv-loop μ-loop
 unfolding Next rest after
 returns c = λ t e. next-sibling t _ e _ _ (c .before .loop-test .taken) (omega arith) _ _ (c .if1 .taken) (c .before .before .loop .inv .3 t e)
 
--- src/lib.rt:46:9
 sub-k : tie.Need-sub-k Inv-loop μ-loop
 sub-k c = search needs
 
--- src/lib.rt:47:9
 mul-set-2 : tie.Need-mul-set-2 Inv-loop μ-loop
 mul-set-2 c = search needs
 
--- src/lib.rt:47:9
 array-write-set-2 : tie.Need-array-write-set-2 Inv-loop μ-loop
 array-write-set-2 c = search needs
 
--- src/lib.rt:40:5
 loop-less : tie.Need-loop-less Inv-loop μ-loop
 loop-less c = search needs
 
--- src/lib.rt:40:5
 loop-again : tie.Need-loop-again Inv-loop μ-loop
 loop-again c = (
   search needs,
@@ -79,7 +65,6 @@ loop-again c = (
   λ t e. goes-up t _ e _ _ (c .before .loop-test .taken) (omega arith) _ _ (c .if1 .left) (c .before .before .loop .inv .3 t e),
 )
 
--- src/lib.rt:34:1
 returns-2 : tie.Need-returns-2 Inv-loop μ-loop
 unfolding Next rest after
 returns-2 c = λ t e. next-none t _ _ _ _ (omega arith) (c .before .loop .inv .3 t e)

@@ -6,52 +6,40 @@ use borrow.Author.Needs.{needs}
 use Rattle.walk.proofs.walk.Statement.{statement}
 use Rattle.walk.proofs.walk.Tie as tie
 
--- src/lib.rt:158:25
 shared-slice-read-wide : tie.Need-shared-slice-read-wide
 shared-slice-read-wide c = omega (arith, layout _ (c .before .before .pre) .header-in)
 
--- src/lib.rt:158:9
 wide-requires : tie.Need-wide-requires
 wide-requires c κs = search needs
 
--- src/lib.rt:159:25
 shared-slice-read-wide-2 : tie.Need-shared-slice-read-wide-2
 shared-slice-read-wide-2 c = omega (arith, layout _ (c .before .before .before .before .pre) .header-in)
 
--- src/lib.rt:159:9
 wide-requires-2 : tie.Need-wide-requires-2
 wide-requires-2 c κs = search needs
 
--- src/lib.rt:160:25
 shared-slice-read-wide-3 : tie.Need-shared-slice-read-wide-3
 shared-slice-read-wide-3 c = omega (arith, layout _ (c .before .before .before .before .before .before .pre) .header-in)
 
--- src/lib.rt:160:9
 wide-requires-3 : tie.Need-wide-requires-3
 wide-requires-3 c κs = search needs
 
--- src/lib.rt:161:25
 shared-slice-read-wide-4 : tie.Need-shared-slice-read-wide-4
 shared-slice-read-wide-4 c = omega (arith, layout _ (c .before .before .before .before .before .before .before .before .pre) .header-in)
 
--- src/lib.rt:161:9
 wide-requires-4 : tie.Need-wide-requires-4
 wide-requires-4 c κs = search needs
 
--- src/lib.rt:162:25
 add-last-set : tie.Need-add-last-set
 add-last-set c = omega (arith, layout _ (c .before .before .before .before .before .before .before .before .before .pre) .few-atoms)
 
--- src/lib.rt:162:9
 last-set-requires : tie.Need-last-set-requires
 last-set-requires c κs = omega (arith, layout _ (c .before .before .before .before .before .before .before .before .before .pre) .few-atoms)
 
--- src/lib.rt:163:5
 walk-from-root-requires : tie.Need-walk-from-root-requires
 walk-from-root-requires c κs =
     given-table _ _ _ _ _ _ (c .before .before .before .before .before .before .before .before .before .before .pre) (c .before .before .before .before .before .before .before .wide .ensures) (c .before .before .before .before .before .wide2 .ensures) (c .before .before .before .wide3 .ensures) (c .before .wide4 .ensures) (c .last-set .ensures)
 
--- src/lib.rt:154:1
 returns : tie.Need-returns
 returns c = (search needs, omega arith)
 

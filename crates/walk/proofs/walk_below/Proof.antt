@@ -24,65 +24,51 @@ Inv-loop table fill mask start c e v m last budget sets₀ level₀ count₀ set
 abbrev μ-loop : tie.MeasureT-loop
 μ-loop table fill mask start c e v m last budget sets₀ level₀ count₀ sets level count = budget - count
 
--- src/lib.rt:186:9
 level-of-requires : tie.Need-level-of-requires Inv-loop μ-loop
 level-of-requires c κs = (let p = c .before .before .before .before .pre in (given-node _ _ _ _ _ _ (p .0 .0) (c .before .before .before .before .args .first) (p .1 .sound), p .0 .1, kin-some _ _ (p .1 .kin)))
 
--- src/lib.rt:188:5
 loop-holds : tie.Need-loop-holds Inv-loop μ-loop
 loop-holds c = (let p = c .before .before .before .before .before .pre in (p .1 .some, p .1 .sound, p .1 .left, p .1 .kin, c .level-of .ensures))
 
--- src/lib.rt:189:20
 sub-most : tie.Need-sub-most Inv-loop μ-loop
 sub-most c = omega arith
 
--- src/lib.rt:190:13
 advance-requires : tie.Need-advance-requires Inv-loop μ-loop
 advance-requires c κs = (let p = c .before .before .before .before .before .before .before .pre in let l = c .before .loop in ((p .0 .0, given-sweep _ _ _ _ _ _ (p .0 .0) _ _ _ (l .level) (l .sets) (p .0 .1) (l .inv .1) (l .inv .3) (l .inv .4)), (l .inv .1, omega arith)))
 
--- src/lib.rt:191:9
 add-count : tie.Need-add-count Inv-loop μ-loop
 add-count c = (let h = gone-fits _ _ _ _ (c .before .before .before .loop .sets) (c .before .before .loop-test .taken) (c .before .before .before .loop .inv .2) (c .before .advance .result) (c .before .advance .ensures) in search needs)
 
--- src/lib.rt:197:26
 enum-told : tie.Need-enum-told Inv-loop μ-loop
 enum-told c = c .match .keys1
 
--- src/lib.rt:196:17
 returns : tie.Need-returns Inv-loop μ-loop
 unfolding outcomeOf
 returns c =
     (let h = gone-found _ _ _ _ (c .before .before .before .before .before .before .loop .sets) (c .before .before .before .before .before .loop-test .taken) (c .before .before .before .before .before .before .loop .inv .2) (c .before .before .before .before .advance .result) (c .before .before .before .before .advance .ensures) (c .enum-told .given .1) in (sym (h .0), h .1))
 
--- src/lib.rt:204:26
 enum-told-2 : tie.Need-enum-told-2 Inv-loop μ-loop
 enum-told-2 c = c .match .keys2
 
--- src/lib.rt:203:17
 returns-2 : tie.Need-returns-2 Inv-loop μ-loop
 unfolding outcomeOf
 returns-2 c =
     (let h = gone-over _ _ _ _ (c .before .before .before .before .before .before .loop .sets) (c .before .before .before .before .before .loop-test .taken) (c .before .before .before .before .before .before .loop .inv .2) (c .before .before .before .before .advance .result) (c .before .before .before .before .advance .ensures) (c .enum-told2 .given .1) in (sym h, given-chosen _ _ _ _ _ _ (c .before .before .before .before .before .before .before .before .before .before .before .before .pre .0 .0) _ _ (c .before .before .before .before .before .before .loop .inv .1)))
 
--- src/lib.rt:210:17
 enum-told-3 : tie.Need-enum-told-3 Inv-loop μ-loop
 enum-told-3 c = c .match .keys3
 
--- src/lib.rt:210:17
 level-of-requires-2 : tie.Need-level-of-requires-2 Inv-loop μ-loop
 level-of-requires-2 c κs =
     (let p = c .before .before .before .before .before .before .before .before .before .before .before .before .pre in let h = gone-on _ _ _ _ (c .before .before .before .before .before .before .loop .sets) (c .before .before .before .before .before .loop-test .taken) (c .before .before .before .before .before .before .loop .inv .2) (c .before .before .before .before .advance .result) (c .before .before .before .before .advance .ensures) (c .enum-told3 .given .1) in (given-node _ _ _ _ _ _ (p .0 .0) (c .before .before .before .before .advance .result .sets) (h .0), p .0 .1, kin-some _ _ (h .1)))
 
--- src/lib.rt:188:5
 loop-less : tie.Need-loop-less Inv-loop μ-loop
 loop-less c = (let h = gone-fits _ _ _ _ (c .before .before .before .before .before .before .before .loop .sets) (c .before .before .before .before .before .before .loop-test .taken) (c .before .before .before .before .before .before .before .loop .inv .2) (c .before .before .before .before .before .advance .result) (c .before .before .before .before .before .advance .ensures) in omega arith)
 
--- src/lib.rt:188:5
 loop-again : tie.Need-loop-again Inv-loop μ-loop
 loop-again c =
     (let f = gone-fits _ _ _ _ (c .before .before .before .before .before .before .before .loop .sets) (c .before .before .before .before .before .before .loop-test .taken) (c .before .before .before .before .before .before .before .loop .inv .2) (c .before .before .before .before .before .advance .result) (c .before .before .before .before .before .advance .ensures) in let h = gone-on _ _ _ _ (c .before .before .before .before .before .before .before .loop .sets) (c .before .before .before .before .before .before .loop-test .taken) (c .before .before .before .before .before .before .before .loop .inv .2) (c .before .before .before .before .before .advance .result) (c .before .before .before .before .before .advance .ensures) (c .before .enum-told3 .given .1) in (f .1, h .0, h .2, h .1, c .level-of2 .ensures))
 
--- src/lib.rt:168:1
 returns-3 : tie.Need-returns-3 Inv-loop μ-loop
 unfolding outcomeOf
 returns-3 c =

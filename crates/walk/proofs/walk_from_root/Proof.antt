@@ -15,68 +15,54 @@ use Rattle.walk.proofs.walk_from_root.Tie as tie
 abbrev root : Sets
 root = setsOf (replicate 12 0) 0
 
--- src/lib.rt:240:9
 returns : tie.Need-returns
 unfolding outcomeOf
 returns c = (sym (walked-spent _ _ 0 root (walked-start _ _ root refl) (c .if1 .taken)), omega arith)
 
--- src/lib.rt:246:21
 is-dead-requires : tie.Need-is-dead-requires
 is-dead-requires c κs = given-node _ _ _ _ _ _ (c .before .before .pre) root (sound-root _ _ (zeros 12))
 
--- src/lib.rt:246:9
 look-requires : tie.Need-look-requires
 look-requires c κs = (let p = c .before .before .before .pre in let q = given-variables _ _ _ _ _ _ p in (q .1, omega arith, p .narrow))
 
--- src/lib.rt:251:18
 enum-told : tie.Need-enum-told
 enum-told c = search needs
 
--- src/lib.rt:256:18
 enum-told-2 : tie.Need-enum-told-2
 enum-told-2 c = search needs
 
--- src/lib.rt:261:17
 enum-told-3 : tie.Need-enum-told-3
 enum-told-3 c = search needs
 
--- src/lib.rt:261:17
 prepare-requires : tie.Need-prepare-requires
 prepare-requires c κs = search needs
 
--- src/lib.rt:265:31
 slice-aggregate-walk-below : tie.Need-slice-aggregate-walk-below
 slice-aggregate-walk-below c = search needs
 
--- src/lib.rt:265:38
 slice-aggregate-walk-below-2 : tie.Need-slice-aggregate-walk-below-2
 slice-aggregate-walk-below-2 c = search needs
 
--- src/lib.rt:265:45
 slice-aggregate-walk-below-3 : tie.Need-slice-aggregate-walk-below-3
 slice-aggregate-walk-below-3 c = search needs
 
--- src/lib.rt:265:13
 walk-below-requires : tie.Need-walk-below-requires
 unfolding Looked deadAt
 walk-below-requires c κs =
     (let p = c .before .before .before .before .before .before .before .before .before .before .before .before .before .before .pre in let q = given-variables _ _ _ _ _ _ p in let h : 0 < c .before .before .before .before .before .before .before .before .before .before .before .before .before .before .args .budget = (let z = c .before .before .before .before .before .before .before .before .before .before .before .before .if1 .left in omega arith) in let w = walked-on _ (c .before .before .before .before .before .before .before .before .before .before .before .before .before .before .args .budget) 0 root (walked-start _ _ root refl) (omega arith) (c .before .before .before .before .before .before .before .before .before .before .look .result .going) (c .before .before .before .before .before .before .before .before .before .before .look .result .sets) (c .before .before .before .before .before .before .before .before .before .before .look .ensures _ (sym (q .0)) (p .width) (sound-root _ _ (zeros 12)) (c .before .before .before .before .before .before .before .before .before .before .before .is-dead .ensures)) (c .before .before .before .before .before .before .before .enum-told3 .given .1) in
     ((p, c .before .before .before .before .before .before .prepare .ensures), record { some = h; sound = w .0; kin = w .1; left = w .2 }))
 
--- src/lib.rt:223:1
 returns-2 : tie.Need-returns-2
 unfolding outcomeOf Looked deadAt
 returns-2 c =
     (let p = c .before .before .before .before .before .before .before .pre in let q = given-variables _ _ _ _ _ _ p in let z = c .before .before .before .before .before .if1 .left in let w = walked-found _ (c .before .before .before .before .before .before .before .args .budget) 0 root (walked-start _ _ root refl) (omega arith) (c .before .before .before .look .result .going) (c .before .before .before .look .result .sets) (c .before .before .before .look .ensures _ (sym (q .0)) (p .width) (sound-root _ _ (zeros 12)) (c .before .before .before .before .is-dead .ensures)) (c .enum-told .given .1) in
     (sym (w .0), subst (λ (x : Sets). x .chosen ≤ c .before .before .before .before .before .before .before .args .v) (sym (w .1)) (omega arith)))
 
--- src/lib.rt:223:1
 returns-3 : tie.Need-returns-3
 unfolding outcomeOf Looked deadAt
 returns-3 c =
     (let p = c .before .before .before .before .before .before .before .pre in let q = given-variables _ _ _ _ _ _ p in let z = c .before .before .before .before .before .if1 .left in (sym (walked-over _ (c .before .before .before .before .before .before .before .args .budget) 0 root (walked-start _ _ root refl) (omega arith) (c .before .before .before .look .result .going) (c .before .before .before .look .result .sets) (c .before .before .before .look .ensures _ (sym (q .0)) (p .width) (sound-root _ _ (zeros 12)) (c .before .before .before .before .is-dead .ensures)) (c .enum-told2 .given .1)), omega arith))
 
--- src/lib.rt:223:1
 returns-4 : tie.Need-returns-4
 returns-4 c = search needs
 

@@ -1,6 +1,7 @@
 -- What a child of a live node adds, read off the parent: y is the newest variable, p the parent, and the child is p with one set more.
 --
 --   newly t p x w     == at the child the newest variable leads to w: directly, or over a variable that led to w at the parent
+--   Child z w         == at the child z reaches w
 --   shorten           == what leads to w at the child led there at the parent, or leads to the newest variable, and that to w
 --   newly-means       == so the newest variable reaches w exactly if it does so newly
 --   child-acyclic     == the child of an acyclic node is acyclic exactly if the newest variable does not lead to itself newly
@@ -8,12 +9,12 @@
 --   freshly t p l     == the line l has or reaches the newest variable, and is ready at every child whose newest variable leads to chosen ones
 --   child-dead        == where it leads to chosen ones only, the child is dead exactly if one of these lines fails
 use mathlib.Core.Path.{_≡_, refl, sym, ap, ap₂, subst, _∙_}
-use mathlib.Core.Bool.{Bool, true, false, _&&_, _||_, not}
+use mathlib.Core.Bool.{Bool, true, false, _&&_, _||_, not, and-assoc}
 use mathlib.Core.Logic.{_⊎_, inl, inr, _↔_}
-use mathlib.Core.List.{List, [], _∷_, _++_}
-use Prim.Native.Nat.{ℕ, zero, suc, _+_, _≤_, _<_}
+use mathlib.Core.List.{[], _∷_}
+use Prim.Native.Nat.{ℕ, _≤_, _<_}
 use native.Mathlib.Omega.{arith}
-use native.Mathlib.Decide.{decLt, decLe, ℕ-discrete}
+use native.Mathlib.Decide.{decLt, ℕ-discrete}
 use lib.Dec.{T, T-not, not-T, eqb, ltb, leb, eqb→eq, ltb→lt, lt→ltb, leb→le, le→leb, eqb-refl}
 use lib.ListN.{length, getD}
 use Rattle.el.specs.Test.{anyBelow, allBelow, anyOf, everyOf}
@@ -21,10 +22,10 @@ use Rattle.el.specs.Table.{Line, Table, declared}
 use Rattle.el.specs.Meaning.{holds}
 use Rattle.el.specs.Assignment.{depends, Reaches, once, then, reaches, acyclic, Acyclic, induced}
 use Rattle.el.specs.Walk.{Node, lineVariables, settled, ready, fails, dead}
-use Rattle.el.specs.TestLaws.{is-true, is-false, true-is, false-not, same-test, or-left, or-right, or-cases, and-make, and-left, and-right, anyBelow-hit, anyBelow-found, allBelow-all, allBelow-at, anyOf-hit, anyOf-found, anyOf-same, everyOf-at, everyOf-all}
+use Rattle.el.specs.TestLaws.{is-false, true-is, false-not, same-test, or-left, or-right, or-cases, and-make, and-left, and-right, anyBelow-hit, anyBelow-found, allBelow-all, allBelow-at, anyOf-found, anyOf-same, everyOf-at, everyOf-all}
 use Rattle.el.specs.ReachLaws.{reaches-join, reaches-means, reaches-declared, depends-declared, acyclic-means, depends-same}
-use Rattle.el.specs.NodeLaws.{set-stays, depends-stays, reaches-stays, depends-unchosen, settled-chosen, settled-reached, settled-make, dead-lines, dead-cyclic, noLine}
-use Rattle.el.specs.FreshLaws.{childOf, child-length, touches, parent-acyclic, fresh-fails, dead-fresh}
+use Rattle.el.specs.NodeLaws.{set-stays, reaches-stays, depends-unchosen, settled-chosen, settled-reached, settled-make, noLine}
+use Rattle.el.specs.FreshLaws.{childOf, child-length, touches, dead-fresh}
 
 unfoldable pub newly : Table → Node → ℕ → ℕ → Bool
 newly t p x w =
@@ -75,7 +76,7 @@ module _ (t : Table) (known : T (declared t)) (p : Node) (x : ℕ) where
       go : Dec (z < length p) → Dec (z ≡ length p) → T (depends t p z w) ⊎ (z ≡ length p)
       go (yes h) e = inl (subst T (sym (depends-same t p (childOf p x) z w (set-stays p (x ∷ []) z h))) d)
       go (no h) (yes e) = inr e
-      go (no h) (no e) = absurd (false-not (depends t (childOf p x) z w) (depends-unchosen t known (childOf p x) [] z w (let c = child-length t known p x in omega arith)) d)
+      go (no h) (no e) = absurd (false-not (depends t (childOf p x) z w) (depends-unchosen t (childOf p x) z w (let c = child-length t known p x in omega arith)) d)
 
   abbrev Short : ℕ → ℕ → Type 0
   Short z w = Parent z w ⊎ (New w × ((z ≡ length p) ⊎ Parent z (length p)))
@@ -104,8 +105,8 @@ module _ (t : Table) (known : T (declared t)) (p : Node) (x : ℕ) where
 
   -- at the parent the newest variable has no dependences
   not-yet : {z w : ℕ} → z ≡ length p → Parent z w → ⊥
-  not-yet e (once {x = z} {y = w} d) = false-not (depends t p z w) (depends-unchosen t known p [] z w (omega arith)) d
-  not-yet e (then {x = z} {y = w} d r) = false-not (depends t p z w) (depends-unchosen t known p [] z w (omega arith)) d
+  not-yet e (once {x = z} {y = w} d) = false-not (depends t p z w) (depends-unchosen t p z w (omega arith)) d
+  not-yet e (then {x = z} {y = w} d r) = false-not (depends t p z w) (depends-unchosen t p z w (omega arith)) d
 
   child-new : (w : ℕ) → Child (length p) w → New w
   child-new w r = go (shorten r)
@@ -257,15 +258,11 @@ module _ (t : Table) (known : T (declared t)) (p : Node) (x : ℕ) where
       unfolding touches
       touch-same l = anyOf-same (λ z. eqb z (length p) || reaches t (childOf p x) z (length p)) (λ z. eqb z (length p) || reaches t p z (length p)) (lineVariables (t .rows) l) 0 (λ i _. same-touch (getD (lineVariables (t .rows) l) i 0))
 
-      regroup : (a b c : Bool) → a && (b && c) ≡ (a && b) && c
-      regroup true b c = refl
-      regroup false b c = refl
-
       fails-same : (l : Line) → touches t (childOf p x) (length p) l && fails under t (childOf p x) l ≡ freshly t p l && not (holds under (t .rows) (induced t (childOf p x)) l)
       unfolding fails freshly
       fails-same l =
           ap₂ (λ (a b : Bool). a && (b && not (holds under (t .rows) (induced t (childOf p x)) l))) (touch-same l) (ready-same l)
-          ∙ regroup (anyOf (λ z. eqb z (length p) || reaches t p z (length p)) (lineVariables (t .rows) l)) (everyOf ReadyAt (lineVariables (t .rows) l)) (not (holds under (t .rows) (induced t (childOf p x)) l))
+          ∙ sym (and-assoc (anyOf (λ z. eqb z (length p) || reaches t p z (length p)) (lineVariables (t .rows) l)) (everyOf ReadyAt (lineVariables (t .rows) l)) (not (holds under (t .rows) (induced t (childOf p x)) l)))
 
       -- WHERE IT LEADS TO CHOSEN ONES ONLY, THE LINES TO TEST ARE READ OFF THE PARENT
       pub child-dead : dead under t (childOf p x) ≡ anyOf (λ l. freshly t p l && not (holds under (t .rows) (induced t (childOf p x)) l)) (t .lines)

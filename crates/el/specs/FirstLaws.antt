@@ -3,20 +3,22 @@
 --   extensions w r s == the nodes that choose r sets below w more than s, in counting order
 --   Choices w r l    == l is r set numbers below w
 --   keep p l         == those elements of l that pass p
+--   keep-append, keep-inTurn == of two lists, and of lists in turn
+--   orElse a b       == a, or b where a is none
+--   FirstSays r s o  == o is the least of the extensions that passes, or none where none does
+--   treeOf r s       == the tree of nodes below s, where a dead node has no children
 --   first-same       == two lists that keep the same have the same first
 --   first-least      == the first of the extensions that passes a test is the least in counting order that does; where there is none, none does
 --   live-full        == where a dead node hides nothing, the live full nodes of a tree are the extensions that pass
 use mathlib.Core.Path.{_≡_, refl, sym, ap, ap₂, subst, _∙_}
-use mathlib.Core.Bool.{Bool, true, false, _&&_, not, true≢false}
-use mathlib.Core.Logic.{_⊎_, inl, inr}
+use mathlib.Core.Bool.{Bool, true, false, true≢false}
+use mathlib.Core.Logic.{inl, inr}
 use mathlib.Core.List.{List, [], _∷_, _++_, append-assoc, append-nil}
 use mathlib.Core.Option.{Option, none, some}
-use Prim.Native.Nat.{ℕ, zero, suc, _+_, _-_, _^_, _≤_, _<_}
+use Prim.Native.Nat.{ℕ, zero, suc, _+_, _≤_, _<_}
 use native.Mathlib.Omega.{arith}
 use native.Mathlib.Decide.{ℕ-discrete}
-use lib.Dec.{eqb}
 use lib.ListN.{length, length-append}
-use borrow.Author.Tests.{ne-eqb, eq-eqb}
 use Rattle.el.specs.Assignment.{Before}
 use Rattle.el.specs.Walk.{Node, inTurn, firstOf}
 

@@ -1,27 +1,28 @@
 -- At a child only lines that have or reach the newest variable can fail.
 --
 --   touches t s y l  == the line l has the variable y, or a variable of it reaches y at the node s
+--   childOf p x      == the node p with one set more, x
+--   child-length     == it has one variable more
 --   ready-before     == a line that is ready at a child and does not touch the newest variable is ready at the parent
+--   parent-acyclic   == the parent of an acyclic child is acyclic
 --   fresh-fails      == below a live parent a line that fails touches the newest variable
 --   dead-fresh       == so the test of a child need not look at other lines
-use mathlib.Core.Path.{_≡_, refl, sym, ap, ap₂, subst, _∙_}
+use mathlib.Core.Path.{_≡_, refl, sym, subst, _∙_}
 use mathlib.Core.Bool.{Bool, true, false, _&&_, _||_, not}
-use mathlib.Core.Logic.{_⊎_, inl, inr}
-use mathlib.Core.List.{List, [], _∷_, _++_}
-use Prim.Native.Nat.{ℕ, zero, suc, _+_, _≤_, _<_}
+use mathlib.Core.List.{[], _∷_, _++_}
+use Prim.Native.Nat.{ℕ, suc, _+_, _<_}
 use native.Mathlib.Omega.{arith}
-use native.Mathlib.Decide.{decLt, ℕ-discrete}
-use lib.Dec.{T, T-not, not-T, eqb, eqb→eq}
+use lib.Dec.{T, eqb}
 use lib.ListN.{length, getD, length-append}
 use borrow.Author.Tests.{eq-eqb}
-use Rattle.el.specs.Test.{anyOf, everyOf}
-use Rattle.el.specs.Table.{Line, constant, Table, declared}
+use Rattle.el.specs.Test.{anyOf}
+use Rattle.el.specs.Table.{Line, Table, declared}
 use Rattle.el.specs.Meaning.{holds}
-use Rattle.el.specs.Assignment.{depends, Reaches, once, then, reaches, acyclic, Acyclic, induced}
+use Rattle.el.specs.Assignment.{reaches, acyclic, induced}
 use Rattle.el.specs.Walk.{Node, lineVariables, settled, ready, fails, dead}
-use Rattle.el.specs.TestLaws.{is-true, is-false, true-is, false-not, same-test, or-left, or-right, and-make, and-left, and-right, anyOf-hit, anyOf-found, anyOf-same, everyOf-at, everyOf-all}
-use Rattle.el.specs.ReachLaws.{reaches-join, reaches-means, reaches-declared, acyclic-means, depends-same}
-use Rattle.el.specs.NodeLaws.{set-stays, depends-stays, reaches-stays, acyclic-stays, depends-unchosen, settled-chosen, settled-reached, settled-make, holds-stays, dead-lines, dead-cyclic, noLine}
+use Rattle.el.specs.TestLaws.{is-true, true-is, false-not, same-test, or-left, or-right, and-make, and-left, and-right, anyOf-hit, anyOf-same, everyOf-at, everyOf-all}
+use Rattle.el.specs.ReachLaws.{reaches-means}
+use Rattle.el.specs.NodeLaws.{reaches-stays, acyclic-stays, settled-chosen, settled-reached, settled-make, holds-stays, dead-lines, noLine}
 
 unfoldable pub touches : Table → Node → ℕ → Line → Bool
 touches t s y l = anyOf (λ x. eqb x y || reaches t s x y) (lineVariables (t .rows) l)

@@ -3,7 +3,7 @@
 --   Grows t u   == u grows from t
 use mathlib.Core.Path.{_≡_}
 use mathlib.Core.List.{List, _++_}
-use Prim.Native.Nat.{ℕ, _≤_}
+use Prim.Native.Nat.{_≤_}
 use Rattle.el.specs.Table.{Row, Line, Table}
 
 -- "each of its counts c, r, v, e, m is at least the other's, and the other's rows and lines stand first among its own, in order"

@@ -20,7 +20,7 @@
 --   inducedTo-reached   == assignments that give the same sets to x and all that x reaches
 --   induced-same        == assignments that give the same sets
 use mathlib.Core.Path.{_≡_, refl, sym, ap, ap₂, subst, _∙_}
-use mathlib.Core.Bool.{Bool, true, false, _&&_, _||_, not}
+use mathlib.Core.Bool.{Bool, true, false, _&&_, _||_, not, and-true, or-false}
 use Prim.Native.Nat.{ℕ, zero, suc, _+_, _-_, _≤_, _<_}
 use native.Mathlib.Omega.{arith}
 use native.Mathlib.Nat.{not-suc-le-zero}
@@ -41,14 +41,6 @@ use Rattle.el.specs.Rank.{one, countBelow, rank}
 ----------------------------------------------------------------------------------------------------
 -- Conjunctions
 
-and-yes : (a : Bool) → a ≡ a && true
-and-yes true = refl
-and-yes false = refl
-
-or-no : (a : Bool) → a ≡ a || false
-or-no true = refl
-or-no false = refl
-
 module _ (under : ℕ → ℕ → Bool) where
   pub conjoin-below : (C : Description) (n : ℕ) (p : ℕ → Bool) (d : ℕ → Description) → below under C (conjoin n p d) ≡ allBelow n (λ i. not (p i) || below under C (d i))
   unfolding conjoin allBelow
@@ -58,7 +50,7 @@ module _ (under : ℕ → ℕ → Bool) where
       go : (b : Bool) → below under C (conjoin n p d) ≡ allBelow n (λ i. not (p i) || below under C (d i)) →
           below under C (elim b [ true ↦ meet (conjoin n p d) (d n) | false ↦ conjoin n p d ]) ≡ allBelow n (λ i. not (p i) || below under C (d i)) && (not b || below under C (d n))
       go true e = ap (λ b. b && below under C (d n)) e
-      go false e = e ∙ and-yes (allBelow n (λ i. not (p i) || below under C (d i)))
+      go false e = e ∙ sym (and-true (allBelow n (λ i. not (p i) || below under C (d i))))
 
   pub conjoin-name : (a n : ℕ) (p : ℕ → Bool) (d : ℕ → Description) → hasName a (conjoin n p d) ≡ anyBelow n (λ i. p i && hasName a (d i))
   unfolding conjoin anyBelow
@@ -68,7 +60,7 @@ module _ (under : ℕ → ℕ → Bool) where
       go : (b : Bool) → hasName a (conjoin n p d) ≡ anyBelow n (λ i. p i && hasName a (d i)) →
           hasName a (elim b [ true ↦ meet (conjoin n p d) (d n) | false ↦ conjoin n p d ]) ≡ anyBelow n (λ i. p i && hasName a (d i)) || (b && hasName a (d n))
       go true e = ap (λ b. b || hasName a (d n)) e
-      go false e = e ∙ or-no (anyBelow n (λ i. p i && hasName a (d i)))
+      go false e = e ∙ sym (or-false (anyBelow n (λ i. p i && hasName a (d i))))
 
   pub conjoin-some : (s : ℕ) (q : Description → Bool) (n : ℕ) (p : ℕ → Bool) (d : ℕ → Description) → hasSome under s q (conjoin n p d) ≡ anyBelow n (λ i. p i && hasSome under s q (d i))
   unfolding conjoin anyBelow
@@ -78,7 +70,7 @@ module _ (under : ℕ → ℕ → Bool) where
       go : (b : Bool) → hasSome under s q (conjoin n p d) ≡ anyBelow n (λ i. p i && hasSome under s q (d i)) →
           hasSome under s q (elim b [ true ↦ meet (conjoin n p d) (d n) | false ↦ conjoin n p d ]) ≡ anyBelow n (λ i. p i && hasSome under s q (d i)) || (b && hasSome under s q (d n))
       go true e = ap (λ b. b || hasSome under s q (d n)) e
-      go false e = e ∙ or-no (anyBelow n (λ i. p i && hasSome under s q (d i)))
+      go false e = e ∙ sym (or-false (anyBelow n (λ i. p i && hasSome under s q (d i))))
 
   pub conjoin-greatest : (C : Description) (n : ℕ) (p : ℕ → Bool) (d : ℕ → Description) → ((i : ℕ) → i < n → T (p i) → T (below under C (d i))) → T (below under C (conjoin n p d))
   conjoin-greatest C n p d f =

@@ -9,6 +9,7 @@ pub mod ScanLaws
 pub mod StepLaws
 pub mod FirstLaws
 pub mod TestLaws
+pub mod TableLaws
 pub mod ReachLaws
 pub mod Conjuncts
 pub mod OrderLaws

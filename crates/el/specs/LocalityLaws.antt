@@ -23,13 +23,14 @@ use native.Mathlib.Decide.{decLt}
 use lib.Dec.{T, ltb, eqb, eqb→eq, ltb→lt, lt→ltb}
 use lib.ListN.{length, getD, List·getD-eq-default}
 use Rattle.el.specs.Test.{everyOf, bit}
-use Rattle.el.specs.TestLaws.{false-not, or-left, or-right, or-cases, and-make, and-left, and-right, anyBelow-found, everyOf-at, everyOf-both, bit-none, bit-first, bit-next}
+use Rattle.el.specs.TestLaws.{false-not, or-left, or-right, or-cases, and-make, and-left, and-right, anyBelow-found, everyOf-both, bit-none, bit-first, bit-next}
 use Rattle.el.specs.Description.{Description, top, name, meet, some, hasName, below}
 use Rattle.el.specs.Conjuncts.{depth}
 use Rattle.el.specs.OrderLaws.{below-left, below-right, below-trans, below-depth}
 use Rattle.el.specs.Table.{Filler, topF, constantF, variableF, Entry, constant, restriction, variable, Line, Table, rowAt, atoms, fillerDeclared, rowDeclared, entryDeclared, lineDeclared, declared}
 use Rattle.el.specs.Meaning.{Substitution, fillerUnder, rowUnder, entryUnder, leftUnder, holds, makes}
 use Rattle.el.specs.Assignment.{Assignment, setOf, IsAssignment, isVariable, depends, Reaches, once, then, Acyclic, acyclic, atomUnder, setUnder, induced, Solves, solves}
+use Rattle.el.specs.TableLaws.{row-declared}
 use Rattle.el.specs.ReachLaws.{acyclic-means}
 use Rattle.el.specs.Rank.{one}
 use Rattle.el.specs.InducedLaws.{conjoin-member, conjoin-greatest, atomUnder-constant, atomUnder-row, induced-equation}
@@ -215,12 +216,6 @@ module _ (under : ℕ → ℕ → Bool) (under-refl : (r : ℕ) → T (under r r
   filler-filler f (constantF k) ok ok′ b = at-constant (fillerUnder γ f) (fillerUnder σ f) (carries-filler f ok) k (ltb→lt k (t .constants) ok′) b
   filler-filler f (variableF z) ok ok′ b = carries-right (fillerUnder γ f) (fillerUnder σ f) (carries-filler f ok) z b
 
-  row-filler : (k : ℕ) → k < length (t .rows) → T (fillerDeclared t (rowAt (t .rows) k .filler))
-  unfolding declared rowAt
-  row-filler k h =
-      and-right (ltb (rowAt (t .rows) k .role) (t .roles)) (fillerDeclared t (rowAt (t .rows) k .filler))
-      (everyOf-at (rowDeclared t) (t .rows) k _ (and-left (everyOf (rowDeclared t) (t .rows)) (everyOf (lineDeclared t) (t .lines)) known) h)
-
   carries-row : (k : ℕ) → k < length (t .rows) → Carries (rowUnder γ (rowAt (t .rows) k)) (rowUnder σ (rowAt (t .rows) k))
   carries-row k h =
       by-atom (rowUnder γ (rowAt (t .rows) k)) (rowUnder σ (rowAt (t .rows) k)) (λ i l b. b)
@@ -231,7 +226,7 @@ module _ (under : ℕ → ℕ → Bool) (under-refl : (r : ℕ) → T (under r r
       let g = rowAt (t .rows) j .filler in
       and-make (under r s) (below under (fillerUnder σ f) (fillerUnder σ g))
       (and-left (under r s) (below under (fillerUnder γ f) (fillerUnder γ g)) b)
-      (filler-filler f g (row-filler k h) (row-filler j l) (and-right (under r s) (below under (fillerUnder γ f) (fillerUnder γ g)) b)))
+      (filler-filler f g (row-declared t known k) (row-declared t known j) (and-right (under r s) (below under (fillerUnder γ f) (fillerUnder γ g)) b)))
 
   carries-entry : (e : Entry) → T (entryDeclared t e) → Carries (entryUnder (t .rows) γ e) (entryUnder (t .rows) σ e)
   carries-entry (constant k) ok = carries-name k

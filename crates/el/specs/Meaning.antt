@@ -7,7 +7,7 @@
 --   leftUnder rows σ es   == the conjunction of the entries es with σ carried out; the empty one is top
 --   holds under rows σ l  == σ makes the line l true
 --   makes under t σ       == σ makes every line of t true
-use mathlib.Core.Bool.{Bool, true, false}
+use mathlib.Core.Bool.{Bool}
 use mathlib.Core.List.{List, [], _∷_}
 use Prim.Native.Nat.{ℕ}
 use Rattle.el.specs.Test.{everyOf}

@@ -1,29 +1,36 @@
 -- A dead node hides no solution, and a full live node is one.
 --
---   depends-stays, acyclic-stays == choosing more only adds dependences
+--   line-same       == a line under two substitutions that agree on its variables
+--   set-stays       == a chosen set stays where more is chosen
+--   set-unchosen, depends-unchosen == a variable that is not chosen has the empty set and depends on none
+--   depends-stays, reaches-stays, acyclic-stays == choosing more only adds dependences
+--   settled-chosen, settled-reached, settled-make == what it is to be settled
 --   induced-stays   == what a settled variable stands for stays where more is chosen
 --   holds-stays     == so does the truth of a ready line
+--   noLine          == what stands beyond the last line
+--   dead-cyclic, dead-lines == a cyclic node is dead, and an acyclic one exactly if a line fails
 --   dead-hides      == no node below a dead one solves
 --   full-ends       == a full node ends the walk exactly if it solves
 use mathlib.Core.Path.{_≡_, refl, sym, ap, ap₂, subst, _∙_}
 use mathlib.Core.Bool.{Bool, true, false, _&&_, _||_, not}
-use mathlib.Core.Logic.{_⊎_, inl, inr}
+use mathlib.Core.Logic.{inl, inr}
 use mathlib.Core.List.{List, [], _∷_, _++_, append-nil}
-use Prim.Native.Nat.{ℕ, zero, suc, _+_, _-_, _≤_, _<_}
+use Prim.Native.Nat.{ℕ, zero, suc, _+_, _≤_, _<_}
 use native.Mathlib.Omega.{arith}
 use native.Mathlib.Decide.{decLt}
-use lib.Dec.{T, T-not, not-T, eqb, ltb, ltb→lt, lt→ltb, eqb-refl}
+use lib.Dec.{T, T-not, not-T, eqb, ltb, ltb→lt, lt→ltb}
 use lib.ListN.{length, getD, List·getD-append, List·getD-eq-default}
-use borrow.Author.Tests.{lt-ltb, le-ltb, eq-eqb}
-use Rattle.el.specs.Test.{anyBelow, allBelow, anyOf, everyOf, bit}
-use Rattle.el.specs.Description.{Description, top, name, meet, some, below}
-use Rattle.el.specs.Table.{Filler, topF, constantF, variableF, Entry, constant, restriction, variable, Row, Line, Table, rowAt, atoms, declared, rowDeclared, lineDeclared, entryDeclared, fillerDeclared}
-use Rattle.el.specs.Meaning.{Substitution, fillerUnder, rowUnder, entryUnder, leftUnder, holds, makes}
-use Rattle.el.specs.Assignment.{Assignment, setOf, depends, isVariable, Reaches, once, then, reaches, acyclic, atomUnder, conjoin, setUnder, inducedTo, induced, solves}
+use borrow.Author.Tests.{eq-eqb}
+use Rattle.el.specs.Test.{allBelow, anyOf, everyOf, bit}
+use Rattle.el.specs.Description.{meet, some, below}
+use Rattle.el.specs.Table.{Filler, topF, constantF, variableF, Entry, constant, restriction, variable, Row, Line, Table, rowAt, declared, lineDeclared, entryDeclared, fillerDeclared}
+use Rattle.el.specs.Meaning.{Substitution, fillerUnder, entryUnder, leftUnder, holds, makes}
+use Rattle.el.specs.Assignment.{Assignment, setOf, depends, isVariable, Reaches, once, then, reaches, acyclic, setUnder, inducedTo, induced, solves}
 use Rattle.el.specs.Walk.{Node, chosen, fillerVariables, entryVariables, entriesVariables, lineVariables, settled, ready, fails, dead, full, ends}
-use Rattle.el.specs.TestLaws.{is-true, is-false, true-is, false-not, same-test, or-cases, or-left, or-right, and-make, and-left, and-right, anyBelow-hit, anyBelow-found, anyBelow-none, allBelow-all, allBelow-at, anyOf-found, anyOf-hit, everyOf-at, everyOf-all, everyOf-append, bit-none}
+use Rattle.el.specs.TestLaws.{is-true, is-false, true-is, false-not, same-test, or-cases, and-make, and-left, and-right, anyBelow-none, allBelow-all, allBelow-at, anyOf-found, anyOf-hit, everyOf-at, everyOf-all, everyOf-append, bit-none}
 use Rattle.el.specs.InducedLaws.{setUnder-same}
-use Rattle.el.specs.ReachLaws.{depends-declared, reaches-declared, reaches-means, depends-reaches, reaches-trans, acyclic-means, depends-same}
+use Rattle.el.specs.TableLaws.{row-declared, line-declared}
+use Rattle.el.specs.ReachLaws.{reaches-declared, reaches-means, depends-reaches, reaches-trans, acyclic-means, depends-same}
 
 ----------------------------------------------------------------------------------------------------
 -- A line under two substitutions that agree on its variables
@@ -65,20 +72,20 @@ pub set-unchosen : (s : Node) (x : ℕ) → length s ≤ x → setOf s x ≡ 0
 unfolding setOf
 set-unchosen s x h = List·getD-eq-default s 0 h
 
-module _ (t : Table) (known : T (declared t)) (s l : Node) where
-  pub depends-unchosen : (x y : ℕ) → length s ≤ x → depends t s x y ≡ false
-  unfolding depends
-  depends-unchosen x y h =
-      anyBelow-none (length (t .rows)) (λ k. bit (t .constants + k) (setOf s x) && isVariable y (rowAt (t .rows) k .filler))
-      (λ k q. ap (λ (n : ℕ). bit (t .constants + k) n && isVariable y (rowAt (t .rows) k .filler)) (set-unchosen s x h)
-      ∙ ap (λ (b : Bool). b && isVariable y (rowAt (t .rows) k .filler)) (bit-none (t .constants + k)))
+pub depends-unchosen : (t : Table) (s : Node) (x y : ℕ) → length s ≤ x → depends t s x y ≡ false
+unfolding depends
+depends-unchosen t s x y h =
+    anyBelow-none (length (t .rows)) (λ k. bit (t .constants + k) (setOf s x) && isVariable y (rowAt (t .rows) k .filler))
+    (λ k q. ap (λ (n : ℕ). bit (t .constants + k) n && isVariable y (rowAt (t .rows) k .filler)) (set-unchosen s x h)
+    ∙ ap (λ (b : Bool). b && isVariable y (rowAt (t .rows) k .filler)) (bit-none (t .constants + k)))
 
+module _ (t : Table) (known : T (declared t)) (s l : Node) where
   pub depends-stays : (x y : ℕ) → T (depends t s x y) → T (depends t (s ++ l) x y)
   depends-stays x y d = go (decLt x (length s))
     where
       go : Dec (x < length s) → T (depends t (s ++ l) x y)
       go (yes h) = subst T (depends-same t s (s ++ l) x y (set-stays s l x h)) d
-      go (no h) = absurd (false-not (depends t s x y) (depends-unchosen x y (omega arith)) d)
+      go (no h) = absurd (false-not (depends t s x y) (depends-unchosen t s x y (omega arith)) d)
 
   pub reaches-stays : {x y : ℕ} → Reaches (depends t s) x y → Reaches (depends t (s ++ l)) x y
   reaches-stays (once {x} {y} d) = once (depends-stays x y d)
@@ -171,15 +178,9 @@ module _ (under : ℕ → ℕ → Bool) (t : Table) where
       filler-ready (constantF k) d = tt
       filler-ready (variableF x) d = and-make (settled t s x) true (all-settled x (ltb→lt x (t .variables) d)) tt
 
-      row-known : (k : ℕ) → k < length (t .rows) → T (fillerDeclared t (rowAt (t .rows) k .filler))
-      unfolding declared rowAt
-      row-known k h =
-          and-right (ltb (rowAt (t .rows) k .role) (t .roles)) (fillerDeclared t (rowAt (t .rows) k .filler))
-          (everyOf-at (rowDeclared t) (t .rows) k _ (and-left (everyOf (rowDeclared t) (t .rows)) (everyOf (lineDeclared t) (t .lines)) known) h)
-
       entry-ready : (e : Entry) → T (entryDeclared t e) → T (everyOf (settled t s) (entryVariables (t .rows) e))
       entry-ready (constant k) d = unfold everyOf in tt
-      entry-ready (restriction k) d = filler-ready (rowAt (t .rows) k .filler) (row-known k (ltb→lt k (length (t .rows)) d))
+      entry-ready (restriction k) d = filler-ready (rowAt (t .rows) k .filler) (row-declared t known k)
       entry-ready (variable x) d = unfold everyOf in and-make (settled t s x) true (all-settled x (ltb→lt x (t .variables) d)) tt
 
       entries-ready : (es : List Entry) → T (everyOf (entryDeclared t) es) → T (everyOf (settled t s) (entriesVariables (t .rows) es))
@@ -198,10 +199,6 @@ module _ (under : ℕ → ℕ → Bool) (t : Table) where
           (entries-ready (line .left) (and-left (everyOf (entryDeclared t) (line .left)) (entryDeclared t (line .right)) d))
           (entry-ready (line .right) (and-right (everyOf (entryDeclared t) (line .left)) (entryDeclared t (line .right)) d)))
 
-      line-known : (i : ℕ) → i < length (t .lines) → T (lineDeclared t (getD (t .lines) i noLine))
-      unfolding declared
-      line-known i h = everyOf-at (lineDeclared t) (t .lines) i noLine (and-right (everyOf (rowDeclared t) (t .rows)) (everyOf (lineDeclared t) (t .lines)) known) h
-
       live-solves : T (not (dead under t s)) → T (solves under t s)
       unfolding solves makes
       live-solves h = go (acyclic t s) refl
@@ -217,7 +214,7 @@ module _ (under : ℕ → ℕ → Bool) (t : Table) where
                   absurd (T-not (dead under t s) h (true-is (dead under t s) (dead-lines s e ∙ is-true (anyOf (fails under t s) (t .lines))
                   (anyOf-hit (fails under t s) (t .lines) i noLine k
                   (unfold fails in and-make (ready t s (getD (t .lines) i noLine)) (not (holds under (t .rows) (induced t s) (getD (t .lines) i noLine)))
-                  (line-ready (getD (t .lines) i noLine) (line-known i k)) (subst (λ (c : Bool). T (not c)) (sym q) tt))))))
+                  (line-ready (getD (t .lines) i noLine) (line-declared t known i noLine k)) (subst (λ (c : Bool). T (not c)) (sym q) tt))))))
 
           go : (b : Bool) → acyclic t s ≡ b → T (acyclic t s && everyOf (holds under (t .rows) (induced t s)) (t .lines))
           go true e = and-make (acyclic t s) (everyOf (holds under (t .rows) (induced t s)) (t .lines)) (true-is (acyclic t s) e) (rest e)

@@ -1,7 +1,6 @@
 -- Laws of the order between descriptions.
 --
 --   among-left, among-right, among-cases    == what is among two lists one after the other
---   A ↔ B                                   == A gives B, and B gives A
 --   hasName-means, hasSome-means            == the two questions of the order, by the lists of conjuncts
 --   corollary-1, corollary-1-only           == the computed order is what Corollary 1 of 004 says, and nothing else is
 --   below-left, below-right                 == one conjunct below is enough
@@ -55,6 +54,11 @@ hasName-means a (meet C D) = go (hasName-means a C) (hasName-means a D)
     )
 hasName-means a (some r C) = ((λ t. t), λ t. t)
 
+-- the name b has one conjunct, which C has
+only-name : (b : ℕ) (C : Description) → T (hasName b C) → (a : ℕ) → Among a (b ∷ []) → Among a (names C)
+only-name b C t a (inl e) = subst (λ (k : ℕ). Among k (names C)) (sym e) (hasName-means b C .0 t)
+only-name b C t a (inr h) = absurd h
+
 module _ (under : ℕ → ℕ → Bool) where
   pub hasSome-means : (s : ℕ) (p : Description → Bool) (C : Description) → T (hasSome under s p C) ↔ Serves under s (λ E. T (p E)) C
   unfolding Serves
@@ -92,14 +96,7 @@ module _ (under : ℕ → ℕ → Bool) where
   pub corollary-1 : (C D : Description) → T (below under C D) ↔ Corollary-1 under (Below under) C D
   unfolding Corollary-1 Serves
   corollary-1 C top = ((λ t. ((λ a m. absurd m), λ q m. absurd m)), λ c. tt)
-  corollary-1 C (name b) = (there, λ c. hasName-means b C .1 (c .0 b (inl refl)))
-    where
-      only : T (hasName b C) → (a : ℕ) → Among a (b ∷ []) → Among a (names C)
-      only t a (inl e) = subst (λ (k : ℕ). Among k (names C)) (sym e) (hasName-means b C .0 t)
-      only t a (inr h) = absurd h
-
-      there : T (hasName b C) → Corollary-1 under (Below under) C (name b)
-      there t = (only t, λ q m. absurd m)
+  corollary-1 C (name b) = ((λ t. (only-name b C t, λ q m. absurd m)), λ c. hasName-means b C .1 (c .0 b (inl refl)))
   corollary-1 C (meet D E) = go (corollary-1 C D) (corollary-1 C E)
     where
       go : (T (below under C D) ↔ Corollary-1 under (Below under) C D) → (T (below under C E) ↔ Corollary-1 under (Below under) C E) → T (below under C (meet D E)) ↔ Corollary-1 under (Below under) C (meet D E)
@@ -132,11 +129,7 @@ module _ (under : ℕ → ℕ → Bool) where
   pub corollary-1-only : (R : Description → Description → Type 0) → ((C D : Description) → R C D ↔ Corollary-1 under R C D) → (C D : Description) → R C D ↔ T (below under C D)
   unfolding Corollary-1 Serves
   corollary-1-only R f C top = ((λ r. tt), λ t. f C top .1 ((λ a m. absurd m), λ q m. absurd m))
-  corollary-1-only R f C (name b) = ((λ r. hasName-means b C .1 (f C (name b) .0 r .0 b (inl refl))), λ t. f C (name b) .1 (only t, λ q m. absurd m))
-    where
-      only : T (hasName b C) → (a : ℕ) → Among a (b ∷ []) → Among a (names C)
-      only t a (inl e) = subst (λ (k : ℕ). Among k (names C)) (sym e) (hasName-means b C .0 t)
-      only t a (inr h) = absurd h
+  corollary-1-only R f C (name b) = ((λ r. hasName-means b C .1 (f C (name b) .0 r .0 b (inl refl))), λ t. f C (name b) .1 (only-name b C t, λ q m. absurd m))
   corollary-1-only R f C (meet D E) = go (corollary-1-only R f C D) (corollary-1-only R f C E)
     where
       go : (R C D ↔ T (below under C D)) → (R C E ↔ T (below under C E)) → R C (meet D E) ↔ T (below under C (meet D E))

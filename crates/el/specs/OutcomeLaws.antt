@@ -4,22 +4,24 @@
 --   first-solution  == the first node that ends the walk is the first assignment that solves
 --   outcome-within  == within the budget the outcome is that first assignment, or that there is none
 --   outcome-beyond  == beyond the budget it is the budget
+--   Says o          == o is the first assignment that solves, or none where none does
+--   OutcomeSays b o == what the outcome o says under the budget b
 --   outcome-says    == what each outcome says, and when it is given
 --   more-budget     == a larger budget gives the same outcome
-use mathlib.Core.Path.{_≡_, refl, sym, ap, ap₂, subst, _∙_, fun-ext}
-use mathlib.Core.Bool.{Bool, true, false, _&&_, not}
+use mathlib.Core.Path.{_≡_, refl, sym, ap, subst, _∙_, fun-ext}
+use mathlib.Core.Bool.{Bool, true, false, _&&_, not, and-false}
 use mathlib.Core.List.{List, [], _∷_, _++_}
 use mathlib.Core.Option.{Option, none, some}
-use Prim.Native.Nat.{ℕ, zero, suc, _+_, _^_, _≤_, _<_}
+use Prim.Native.Nat.{ℕ, zero, suc, _^_, _≤_, _<_}
 use native.Mathlib.Omega.{arith}
 use native.Mathlib.Decide.{decLe}
-use lib.Dec.{T, eqb, leb, ltb, ltb→lt, lt→ltb}
+use lib.Dec.{T, ltb, ltb→lt, lt→ltb}
 use lib.ListN.{length}
 use borrow.Author.Tests.{le-leb, lt-leb, ne-eqb}
 use Rattle.el.specs.Test.{everyOf}
 use Rattle.el.specs.Table.{Table, atoms, declared}
 use Rattle.el.specs.Assignment.{Assignment, IsAssignment, solves, Before}
-use Rattle.el.specs.Walk.{Node, dead, full, ends, inTurn, subtree, nodes, firstOf, examined, count, Outcome, solved, nothing, budget, ended, outcome}
+use Rattle.el.specs.Walk.{Node, dead, full, ends, inTurn, subtree, nodes, firstOf, count, Outcome, solved, nothing, budget, ended, outcome}
 use Rattle.el.specs.TestLaws.{is-true, true-is, and-make, and-left, and-right}
 use Rattle.el.specs.FirstLaws.{extensions, Choices, FirstSays, first-least, first-same, treeOf, live-full}
 use Rattle.el.specs.NodeLaws.{dead-hides, full-ends}
@@ -60,11 +62,7 @@ module _ (under : ℕ → ℕ → Bool) (t : Table) (known : T (declared t)) whe
 
   not-full : (s : Node) → length s < t .variables → ends under t s ≡ false
   unfolding ends full
-  not-full s h = let q : length s ≡ t .variables → ⊥ = omega arith in ap (λ (b : Bool). not (dead under t s) && b) (ne-eqb (length s) (t .variables) q) ∙ and-no (not (dead under t s))
-    where
-      and-no : (b : Bool) → b && false ≡ false
-      and-no true = refl
-      and-no false = refl
+  not-full s h = let q : length s ≡ t .variables → ⊥ = omega arith in ap (λ (b : Bool). not (dead under t s) && b) (ne-eqb (length s) (t .variables) q) ∙ and-false (not (dead under t s))
 
   -- THE FIRST NODE THAT ENDS THE WALK IS THE FIRST ASSIGNMENT THAT SOLVES
   pub first-solution : firstOf (ends under t) (nodes under t) ≡ firstOf (solves under t) (assignments t)

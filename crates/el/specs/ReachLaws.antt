@@ -1,6 +1,5 @@
 -- Dependence over one or more steps: the tests say what the statements say.
 --
---   A ↔ B               == A gives B, and B gives A
 --   reaches-join        == two chains make one
 --   path-step           == one step is a path, whatever its inner variables may be
 --   path-join           == two paths meet in a variable that may be an inner one
@@ -21,11 +20,12 @@ use Prim.Native.Nat.{ℕ, zero, suc, _+_, _<_}
 use native.Mathlib.Omega.{arith}
 use native.Mathlib.Nat.{not-suc-le-zero}
 use native.Mathlib.Decide.{ℕ-discrete}
-use lib.Dec.{T, ltb, eqb→eq, ltb→lt, T-not, not-T}
+use lib.Dec.{T, eqb→eq, ltb→lt, T-not, not-T}
 use lib.ListN.{length}
-use Rattle.el.specs.Test.{anyBelow, everyOf, bit}
-use Rattle.el.specs.TestLaws.{or-left, or-right, or-cases, and-make, and-left, and-right, anyBelow-found, allBelow-all, allBelow-at, allBelow-same, everyOf-at}
-use Rattle.el.specs.Table.{Filler, topF, constantF, variableF, Table, rowAt, fillerDeclared, rowDeclared, lineDeclared, declared}
+use Rattle.el.specs.Test.{anyBelow, bit}
+use Rattle.el.specs.TestLaws.{or-left, or-right, or-cases, and-make, and-left, and-right, anyBelow-found, allBelow-all, allBelow-at, allBelow-same}
+use Rattle.el.specs.Table.{Filler, topF, constantF, variableF, Table, rowAt, fillerDeclared, declared}
+use Rattle.el.specs.TableLaws.{row-declared}
 use Rattle.el.specs.Assignment.{Assignment, setOf, isVariable, depends, Reaches, once, then, Acyclic, path, reaches, acyclic}
 
 ----------------------------------------------------------------------------------------------------
@@ -104,12 +104,11 @@ path-same d e f (suc j) x y = ap₂ _||_ (path-same d e f j x y) (ap₂ _&&_ (pa
 
 module _ (t : Table) (known : T (declared t)) (a : Assignment) where
   pub depends-declared : (x y : ℕ) → T (depends t a x y) → y < t .variables
-  unfolding depends declared rowAt
+  unfolding depends
   depends-declared x y u =
       let r = anyBelow-found (length (t .rows)) (λ k. bit (t .constants + k) (setOf a x) && isVariable y (rowAt (t .rows) k .filler)) u in
       let row = rowAt (t .rows) (r .0) in
-      let ok : T (rowDeclared t row) = everyOf-at (rowDeclared t) (t .rows) (r .0) _ (and-left (everyOf (rowDeclared t) (t .rows)) (everyOf (lineDeclared t) (t .lines)) known) (r .1) in
-      go (row .filler) (and-right (ltb (row .role) (t .roles)) (fillerDeclared t (row .filler)) ok)
+      go (row .filler) (row-declared t known (r .0))
       (and-right (bit (t .constants + r .0) (setOf a x)) (isVariable y (row .filler)) (r .2))
     where
       go : (f : Filler) → T (fillerDeclared t f) → T (isVariable y f) → y < t .variables

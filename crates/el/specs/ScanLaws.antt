@@ -1,12 +1,13 @@
 -- The outcome read off the list of nodes by going along it, a node at a time.
 --
 --   scan p b n l         == the outcome where n nodes were examined, b more may be, and l is what is left of the list
+--   readOff p b n l      == the same, read off the whole list; off-in, off-out, within the budget and beyond
 --   scan-means           == from the start it is the outcome that `upToFirst` and `firstOf` give
 --   scan-end, scan-spent, scan-solved, scan-on == its cases
-use mathlib.Core.Path.{_≡_, refl, sym, ap, ap₂, subst, _∙_}
+use mathlib.Core.Path.{_≡_, refl, sym, ap, ap₂, _∙_}
 use mathlib.Core.Bool.{Bool, true, false}
-use mathlib.Core.List.{List, [], _∷_, _++_}
-use mathlib.Core.Option.{Option, none, some}
+use mathlib.Core.List.{List, [], _∷_}
+use mathlib.Core.Option.{Option, some}
 use Prim.Native.Nat.{ℕ, zero, suc, _+_, _≤_, _<_}
 use native.Mathlib.Omega.{arith}
 use native.Mathlib.Decide.{decLe}

@@ -1,11 +1,14 @@
 -- What is left of the list of nodes from a node on, and how one step goes along it. A node is the first k set numbers of a list a.
 --
+--   inTurn-none, inTurn-more == no number, and one number more, in turn
+--   siblings a k      == the later siblings of the node (take (k + 1) a), with what is below them
 --   afterwards a k    == the nodes after those from the node (take k a) down
 --   remaining a k     == the nodes from the node (take k a) on
 --   remaining-start   == from the root it is the whole list
---   remaining-dead, remaining-full == a dead or full node has nothing below it
+--   remaining-dead    == a dead node has nothing below it
 --   remaining-down    == a live node that is not full is followed by its first child
 --   remaining-first   == the first of them is the node itself
+--   afterwards-set    == they are told by the first k sets alone
 --   afterwards-hit    == after a node comes its next sibling, where there is one
 --   afterwards-miss   == where there is none, what comes after the node above
 --   afterwards-end    == after the root comes nothing
@@ -17,7 +20,7 @@ use native.Mathlib.Omega.{arith}
 use native.Mathlib.Nat.{sub-zero}
 use native.Mathlib.Numerals.{add-one}
 use lib.ListN.{length, getD, take, set}
-use lib.Seq.{take-set-le, take-suc-set, getD-set-same, getD-set-other, take-suc}
+use lib.Seq.{take-set-le, take-suc-set, getD-set-same, getD-set-other}
 use Rattle.el.specs.Table.{Table, atoms}
 use Rattle.el.specs.Walk.{Node, dead, inTurn, subtree, nodes}
 
@@ -35,10 +38,6 @@ module _ (under : ℕ → ℕ → Bool) (t : Table) where
   unfolding subtree
   subtree-dead zero s e = refl
   subtree-dead (suc r) s e = rw (e, subtree)
-
-  subtree-full : (r : ℕ) (s : Node) → r ≡ 0 → subtree under t r s ≡ s ∷ []
-  unfolding subtree
-  subtree-full r s e = rw e
 
   subtree-live : (r : ℕ) (s : Node) → dead under t s ≡ false
       → subtree under t (suc r) s ≡ s ∷ inTurn (2 ^ atoms t) 0 (λ x. subtree under t r (s ++ (x ∷ [])))
@@ -63,10 +62,6 @@ module _ (under : ℕ → ℕ → Bool) (t : Table) where
   pub remaining-dead : (a : List ℕ) (k : ℕ) → dead under t (take k a) ≡ true → remaining a k ≡ take k a ∷ afterwards a k
   unfolding remaining
   remaining-dead a k e = ap (λ (l : List Node). l ++ afterwards a k) (subtree-dead (t .variables - k) (take k a) e)
-
-  pub remaining-full : (a : List ℕ) (k : ℕ) → k ≡ t .variables → remaining a k ≡ take k a ∷ afterwards a k
-  unfolding remaining
-  remaining-full a k e = ap (λ (l : List Node). l ++ afterwards a k) (subtree-full (t .variables - k) (take k a) (omega arith))
 
   pub remaining-first : (a : List ℕ) (k : ℕ) → (l : List Node) × (remaining a k ≡ take k a ∷ l)
   unfolding remaining

@@ -8,7 +8,7 @@
 --   rowAt rows k == row k
 --   atoms t      == c + e, how many non-variable atoms there are
 --   declared t   == every constant, restriction, variable and role that the table names is declared
-use mathlib.Core.Bool.{Bool, true, false, _&&_}
+use mathlib.Core.Bool.{Bool, true, _&&_}
 use mathlib.Core.List.{List}
 use Prim.Native.Nat.{ℕ, _+_}
 use lib.Dec.{ltb}

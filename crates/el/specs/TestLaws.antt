@@ -2,7 +2,6 @@
 --
 --   is-true, is-false, true-is, false-not   == a test that holds is true, one that does not is false, and back
 --   same-test                               == two tests that say the same are equal
---   decided                                 == a test holds or it does not
 --   or-left, or-right, or-cases             == what `||` says
 --   and-make, and-left, and-right           == what `&&` says
 --   anyBelow-hit, anyBelow-found            == some number below n passes, and back: which one
@@ -11,10 +10,10 @@
 --   anyBelow-step, anyBelow-none            == no number passes: by one more, by all
 --   anyBelow-same                           == tests that agree below n
 --   allBelow-..                             == the same for every number below n
---   anyOf-.., everyOf-..                    == the same over a list, by places; `-append` over two lists; `everyOf-map`, `everyOf-both` along an implication
+--   anyOf-.., everyOf-..                    == the same over a list, by places; `-append` over two lists; `anyOf-places` asks each place, `everyOf-both` follows from two tests
 --   bit-none, bit-first, bit-next           == bits of 0, bit 0, and the bits after it
 use mathlib.Core.Path.{_≡_, refl, sym, ap, ap₂, subst, _∙_}
-use mathlib.Core.Bool.{Bool, true, false, _&&_, _||_}
+use mathlib.Core.Bool.{Bool, true, false, _&&_, _||_, and-assoc, or-assoc}
 use mathlib.Core.Logic.{_⊎_, inl, inr}
 use mathlib.Core.List.{List, [], _∷_, _++_}
 use Prim.Native.Nat.{ℕ, zero, suc, _+_, _^_, _/_, _%_, _<_}
@@ -48,10 +47,6 @@ same-test true true f g = refl
 same-test true false f g = absurd (f tt)
 same-test false true f g = absurd (g tt)
 same-test false false f g = refl
-
-pub decided : (b : Bool) → T b ⊎ (T b → ⊥)
-decided true = inl tt
-decided false = inr (λ t. t)
 
 pub or-left : (a b : Bool) → T a → T (a || b)
 or-left true b t = tt
@@ -160,14 +155,6 @@ allBelow-same (suc n) p q f = ap₂ _&&_ (allBelow-same n p q (λ i h. f i (omeg
 ----------------------------------------------------------------------------------------------------
 -- Some element of a list
 
-or-assoc : (a b c : Bool) → (a || b) || c ≡ a || (b || c)
-or-assoc true b c = refl
-or-assoc false b c = refl
-
-and-assoc : (a b c : Bool) → (a && b) && c ≡ a && (b && c)
-and-assoc true b c = refl
-and-assoc false b c = refl
-
 module _ {A : Type 0} (p : A → Bool) where
   pub anyOf-append : (l m : List A) → anyOf p (l ++ m) ≡ anyOf p l || anyOf p m
   unfolding anyOf
@@ -189,6 +176,12 @@ module _ {A : Type 0} (p : A → Bool) where
       go (inl u) rest = (0, omega arith, u)
       go (inr u) rest = let r = rest u in let h : r .0 < length l = r .1 in (suc (r .0), omega arith, r .2)
 
+  pub anyOf-places : (l : List A) (d : A) → anyOf p l ≡ anyBelow (length l) (λ i. p (getD l i d))
+  anyOf-places l d =
+      same-test (anyOf p l) (anyBelow (length l) (λ i. p (getD l i d)))
+      (λ u. let r = anyOf-found l d u in anyBelow-hit (length l) (r .0) (λ i. p (getD l i d)) (r .1) (r .2))
+      (λ u. let r = anyBelow-found (length l) (λ i. p (getD l i d)) u in anyOf-hit l (r .0) d (r .1) (r .2))
+
   pub everyOf-append : (l m : List A) → everyOf p (l ++ m) ≡ everyOf p l && everyOf p m
   unfolding everyOf
   everyOf-append [] m = refl
@@ -206,22 +199,10 @@ module _ {A : Type 0} (p : A → Bool) where
   everyOf-all (x ∷ l) d f = and-make (p x) (everyOf p l) (f 0 (omega arith)) (everyOf-all l d (λ i h. f (suc i) (omega arith)))
 
 -- tests that agree on a list
-module _ {A : Type 0} (p q : A → Bool) where
-  pub anyOf-same : (l : List A) (d : A) → ((i : ℕ) → i < length l → p (getD l i d) ≡ q (getD l i d)) → anyOf p l ≡ anyOf q l
-  unfolding anyOf
-  anyOf-same [] d f = refl
-  anyOf-same (x ∷ l) d f = ap₂ _||_ (f 0 (omega arith)) (anyOf-same l d (λ i h. f (suc i) (omega arith)))
-
-  pub everyOf-same : (l : List A) (d : A) → ((i : ℕ) → i < length l → p (getD l i d) ≡ q (getD l i d)) → everyOf p l ≡ everyOf q l
-  unfolding everyOf
-  everyOf-same [] d f = refl
-  everyOf-same (x ∷ l) d f = ap₂ _&&_ (f 0 (omega arith)) (everyOf-same l d (λ i h. f (suc i) (omega arith)))
-
-  -- where q follows from p
-  pub everyOf-map : (l : List A) → ((x : A) → T (p x) → T (q x)) → T (everyOf p l) → T (everyOf q l)
-  unfolding everyOf
-  everyOf-map [] f t = tt
-  everyOf-map (x ∷ l) f t = and-make (q x) (everyOf q l) (f x (and-left (p x) (everyOf p l) t)) (everyOf-map l f (and-right (p x) (everyOf p l) t))
+pub anyOf-same : {A : Type 0} (p q : A → Bool) (l : List A) (d : A) → ((i : ℕ) → i < length l → p (getD l i d) ≡ q (getD l i d)) → anyOf p l ≡ anyOf q l
+unfolding anyOf
+anyOf-same p q [] d f = refl
+anyOf-same p q (x ∷ l) d f = ap₂ _||_ (f 0 (omega arith)) (anyOf-same p q l d (λ i h. f (suc i) (omega arith)))
 
 -- where a third test follows from two
 pub everyOf-both : {A : Type 0} (p q r : A → Bool) (l : List A) → ((x : A) → T (p x) → T (q x) → T (r x)) → T (everyOf p l) → T (everyOf q l) → T (everyOf r l)

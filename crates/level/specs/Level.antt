@@ -12,10 +12,15 @@
 --   failsAt s set n         == line n does not hold under the sets
 --   freshFails s set fresh few == one of the lines listed does not
 --   FreshGiven s start c e v fresh few set == what its test asks
+--   setsOf set k            == the first k sets of a list, as the code holds a node
+--   levelOf turning leaving fresh few == the level with these parts
 --   ChildGiven ..           == a child of a live node, and the level that it is tested by
+--   SweepGiven s start level c e v m sets last == the same of the first of the siblings to sweep, and `last` is the last set number
+--   siblingOf sets x        == the sets with x in place of the newest one
+--   ownOf sets              == the newest one
 --   deadSibling t sets x    == the node with the set x in place of its newest one is dead
 --   Passes t sets i         == the i siblings from the node on are dead
---   Sweeps t sets last most swept == what a sweep over siblings says
+--   Sweeps t sets last most swept == what a sweep over siblings says; `SweepsAs`, by its end
 use mathlib.Core.Path.{_≡_}
 use mathlib.Core.Bool.{Bool, true, false, _&&_, _||_, not}
 use mathlib.Core.List.{List, [], _∷_, _++_}

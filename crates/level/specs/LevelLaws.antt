@@ -1,21 +1,25 @@
 -- Laws of a level.
 --
 --   new-start, new-more, new-skip, new-whole == the loop that follows the newest variable's dependences
---   listed-start, turn-more, turn-skip, listed-whole == the loop that lists lines
---   passing-same, passing-below, passing-any == the numbers that pass a test
---   fresh-none, fresh-some == whether a line is listed, by its mask
---   about-says, near-says, fresh-says == what the two masks of a level say, and so which lines it lists
---   lines-start, lines-fail, lines-next, lines-whole, fresh-in, fresh-line == the loop over the lines listed
---   node-child, parent-shows == the node above the node of the sets
---   level-whole, level-made == the level that is made so
 --   new-empty      == where there are no direct dependences
+--   some-high      == a number with something left after a shift has a bit there
 --   bit-added, bit-kept == a bit that is set where a test says so
 --   ways-start, ways-more, ways-whole == the loop that marks the atoms that lead to a variable of W
 --   back-some, back-all, out-some, out-all == how such a variable is found in a mask
---   ways-tell      == what those atoms say of the children
---   below-given, dead-cycle, dead-open, dead-fresh == the test of a child by its level
+--   passing-below, passing-any, passing-same == the numbers that pass a test
+--   listed-start, turn-more, turn-skip, listed-whole == the loop that lists lines
+--   fresh-none, fresh-some == whether a line is listed, by its mask
+--   about-says, near-says, fresh-says == what the two masks of a level say, and so which lines it lists
+--   lines-start, lines-fail, lines-next, lines-whole, fresh-in, fresh-line == the loop over the lines listed
+--   parent-length, parent-few, parent-clean, parent-node == the node above the node of the sets
+--   node-child     == the node is a child of it
+--   parent-shows, parent-needs == its square
+--   ways-tell      == what the atoms that lead to a variable of W say of the children
+--   level-whole, level-made == the level that is made so
+--   few-lines      == the table has at most 64 lines, and a mask for each
+--   dead-cycle, dead-open, below-given, dead-fresh == the test of a child by its level
 use mathlib.Core.Path.{_≡_, refl, sym, ap, ap₂, subst, _∙_}
-use mathlib.Core.Bool.{Bool, true, false, _&&_, _||_, not}
+use mathlib.Core.Bool.{Bool, true, false, _&&_, _||_, not, or-false, or-comm, or-assoc}
 use mathlib.Core.Logic.{_⊎_, inl, inr}
 use mathlib.Core.List.{List, [], _∷_, _++_}
 use Prim.Native.Nat.{ℕ, zero, suc, _+_, _-_, _*_, _/_, _%_, _^_, _≤_, _<_}
@@ -23,48 +27,44 @@ use native.Mathlib.Omega.{arith}
 use native.Mathlib.Decide.{decLt, ℕ-discrete}
 use native.Mathlib.Numerals.{add-one}
 use lib.Bits.{bitAnd, bitOr}
-use lib.Dec.{T, T-not, not-T, eqb, ltb, leb, eqb→eq, ltb→lt, lt→ltb, le→leb, leb→le, eqb-refl}
+use lib.Dec.{T, T-not, not-T, eqb, ltb, leb, eqb→eq, le→leb, leb→le, eqb-refl}
 use lib.ListN.{length, getD, take, set, length-set, length-append, List·getD-append}
-use lib.Seq.{take-suc-set, take-suc, take-set-le, getD-set-same, getD-set-other, getD-take, length-take-le, getD-append-seam}
-use borrow.Author.Tests.{eq-eqb, ne-eqb, lt-ltb, le-ltb, eqb-true}
-use Rattle.el.specs.Test.{anyBelow, allBelow, anyOf, everyOf, bit}
+use lib.Seq.{take-suc-set, take-suc, take-set-le, getD-take, length-take-le, getD-append-seam}
+use borrow.Author.Tests.{eq-eqb, ne-eqb, lt-ltb, le-ltb}
+use Rattle.el.specs.Test.{anyBelow, allBelow, anyOf, bit}
 use Rattle.el.specs.TestLaws.{is-true, is-false, true-is, false-not, same-test, or-left, or-right, or-cases, and-make, and-left, and-right, anyBelow-hit, anyBelow-found, anyBelow-next, anyBelow-same, anyBelow-step, anyBelow-true-at, anyBelow-none, allBelow-all, allBelow-at, anyOf-append, anyOf-hit, anyOf-found, bit-none}
 use Rattle.el.specs.Description.{sameRole}
-use Rattle.el.specs.Table.{constant, Line, Table, declared}
+use Rattle.el.specs.Table.{Line, Table, declared}
 use Rattle.el.specs.Meaning.{holds}
 use Rattle.el.specs.Assignment.{setOf, depends, reaches, acyclic, induced}
 use Rattle.el.specs.ReachLaws.{acyclic-same, reaches-means, reaches-declared}
 use Rattle.el.specs.Walk.{Node, lineVariables, dead}
-use Rattle.el.specs.NodeLaws.{noLine, dead-cyclic}
-use Rattle.el.specs.FreshLaws.{childOf, parent-acyclic}
+use Rattle.el.specs.NodeLaws.{dead-cyclic}
+use Rattle.el.specs.FreshLaws.{childOf}
 use Rattle.el.specs.ChildLaws.{newly, freshly, child-acyclic, child-open, child-dead}
-use Rattle.table.specs.Reading.{byteAt, reading, isReadable, tableOf}
-use Rattle.table.specs.Layout.{Layout, lineAt}
+use Rattle.table.specs.Reading.{byteAt, tableOf}
+use Rattle.table.specs.Layout.{lineAt}
 use Rattle.table.specs.LayoutLaws.{layout}
 use Rattle.order.specs.Given.{LineGiven}
 use Rattle.node.specs.declared.Sets.{Sets}
-use Rattle.node.specs.Node.{nodeOf, Clean, Masks, isAmong, dependsBy, FillMasks, LineMasks, LineStarts, Fills, Prepares, rowOf, Shows, Squares, settledBy, leadsBy, NodeGiven}
-use Rattle.order.specs.BitLaws.{bit-or, bit-and}
-use Rattle.node.specs.MaskLaws.{has-bit, bit-more, or-none, no-bits, high-none, none-high, masks-or, masks-same}
+use Rattle.node.specs.Node.{nodeOf, Clean, Masks, isAmong, dependsBy, LineMasks, LineStarts, Prepares, rowOf, Shows, Squares, settledBy, leadsBy, NodeGiven}
+use Rattle.order.specs.BitLaws.{bit-more, high-none, bit-or, bit-and}
+use Rattle.node.specs.MaskLaws.{has-bit, no-bits, none-high, masks-or}
 use Rattle.node.specs.CodeLaws.{eqb-comm, mask-one}
-use Rattle.node.specs.ReadyLaws.{every-among, among-every, ready-by, none-by, leads-says}
-use Rattle.node.specs.SquareLaws.{depends-filled, set-node, length-node, reaches-unchosen}
+use Rattle.node.specs.ReadyLaws.{ready-by, none-by, leads-says}
+use Rattle.node.specs.SquareLaws.{depends-filled, same-sets, clean-up, reaches-unchosen}
 use Rattle.node.specs.DeadLaws.{same-holds, any-below}
-use Rattle.node.specs.NodeTestLaws.{node-layout, node-few, square-needs}
+use Rattle.node.specs.NodeTestLaws.{node-layout, node-few, square-needs, node-fills}
 use Rattle.level.specs.declared.Level.{Level}
 use Rattle.level.specs.Level.{newBy, Back, Out, WaysTo, Tells, passing, freshMask, isFresh, Listed, Levels, failsAt, freshFails, FreshGiven}
 
 ----------------------------------------------------------------------------------------------------
 -- The newest variable's dependences, followed
 
-or-assoc : (a b c : Bool) → (a || b) || c ≡ a || (b || c)
-or-assoc true b c = refl
-or-assoc false b c = refl
-
 module _ (rows : List ℕ) (d : ℕ) where
   pub new-start : Masks (newBy rows d 0) d
   unfolding newBy anyBelow
-  new-start y = sym (or-none (bit y d))
+  new-start y = sym (or-false (bit y d))
 
   pub new-more : (n m : ℕ) → bit n d ≡ true → Masks (newBy rows d n) m → Masks (newBy rows d (n + 1)) (bitOr m (rowOf rows n))
   unfolding newBy
@@ -80,7 +80,7 @@ module _ (rows : List ℕ) (d : ℕ) where
   new-skip n m e is y =
       is y
       ∙ ap (λ (b : Bool). bit y d || b)
-      (sym (or-none (anyBelow n (λ u. bit u d && bit y (rowOf rows u))))
+      (sym (or-false (anyBelow n (λ u. bit u d && bit y (rowOf rows u))))
       ∙ ap (λ (b : Bool). anyBelow n (λ u. bit u d && bit y (rowOf rows u)) || b) (sym (ap (λ (b : Bool). b && bit y (rowOf rows n)) e))
       ∙ sym (anyBelow-next n (λ u. bit u d && bit y (rowOf rows u))))
 
@@ -106,7 +106,7 @@ module _ (q : ℕ → Bool) (m i : ℕ) (on : Bool) (is : Masks q m) where
   bit-added h e z = masks-or q (λ x. eqb i x) m (1 * 2 ^ i % 4294967296) is (mask-one i h) z ∙ ap (λ (b : Bool). q z || (b && eqb i z)) (sym e)
 
   pub bit-kept : on ≡ false → Masks (λ z. q z || (on && eqb i z)) m
-  bit-kept e z = is z ∙ sym (or-none (q z)) ∙ ap (λ (b : Bool). q z || (b && eqb i z)) (sym e)
+  bit-kept e z = is z ∙ sym (or-false (q z)) ∙ ap (λ (b : Bool). q z || (b && eqb i z)) (sym e)
 
 ----------------------------------------------------------------------------------------------------
 -- The atoms that lead to a variable of W, and the loop that marks them
@@ -211,7 +211,7 @@ module _ (q : ℕ → Bool) where
       snoc l = anyOf-append r l (n ∷ []) ∙ ap (λ (b : Bool). anyOf r l || b) last
         where
           last : anyOf r (n ∷ []) ≡ r n
-          last = unfold anyOf in or-none (r n)
+          last = unfold anyOf in or-false (r n)
 
       next : anyBelow n (λ i. q i && r i) || (q n && r n) ≡ anyBelow (suc n) (λ i. q i && r i)
       next = unfold anyBelow in refl
@@ -221,7 +221,7 @@ module _ (q : ℕ → Bool) where
       go (inl w) ih =
           ap (anyOf r) (w .1) ∙ snoc (passing q n) ∙ ap₂ _||_ ih (sym (ap (λ (b : Bool). b && r n) (w .0))) ∙ next
       go (inr w) ih =
-          ap (anyOf r) (w .1) ∙ ih ∙ sym (or-none (anyBelow n (λ i. q i && r i))) ∙ ap (λ (b : Bool). anyBelow n (λ i. q i && r i) || b) (sym (ap (λ (b : Bool). b && r n) (w .0))) ∙ next
+          ap (anyOf r) (w .1) ∙ ih ∙ sym (or-false (anyBelow n (λ i. q i && r i))) ∙ ap (λ (b : Bool). anyBelow n (λ i. q i && r i) || b) (sym (ap (λ (b : Bool). b && r n) (w .0))) ∙ next
 
   -- the loop that lists them
   pub listed-start : (fresh : List ℕ) → Listed q 0 fresh 0
@@ -291,12 +291,6 @@ any-take r l n h =
 -- What the masks of a level say of the parent p
 
 module _ (t : Table) (known : T (declared t)) (p : Node) (rows : List ℕ) (few : length p < t .variables) (shows : Shows t p rows) where
-  or-comm : (a b : Bool) → a || b ≡ b || a
-  or-comm true true = refl
-  or-comm true false = refl
-  or-comm false true = refl
-  or-comm false false = refl
-
   pub about-says : (y m : ℕ) → y ≡ length p → y < 32 → Masks (leadsBy rows y y) m → Masks (λ z. eqb z (length p) || reaches t p z (length p)) (bitOr m (1 * 2 ^ y % 4294967296))
   about-says y m e h is z =
       masks-or (leadsBy rows y y) (λ x. eqb y x) m (1 * 2 ^ y % 4294967296) is (mask-one y h) z
@@ -423,9 +417,6 @@ module _ (s start : List ℕ) (c e v : ℕ) (fresh : List ℕ) (few : ℕ) (sets
         begins = (unfold LineStarts in given .starts n k);
       }
 
-pub child-needs : (s : List ℕ) (c e v m : ℕ) (sets : Sets) → NodeGiven s c e v m sets → (fill mask start : List ℕ) → Prepares s fill mask start → (c + e ≤ 24) × (e ≤ length fill)
-child-needs s c e v m sets given fill mask start ready = let q = square-needs s c e v m sets given fill (ready .fill-room) in (q .0, q .1)
-
 ----------------------------------------------------------------------------------------------------
 -- The level of a node of the code
 
@@ -435,6 +426,9 @@ module _ (s : List ℕ) (c e v m : ℕ) (sets : Sets) (given : NodeGiven s c e v
 
   abbrev own : ℕ
   own = getD (sets .set) (sets .chosen - 1) 0
+
+  known-table : T (declared (tableOf s))
+  known-table = node-layout s c e v m sets given .all-declared
 
   pub parent-length : length parent ≡ sets .chosen - 1
   parent-length = let h : sets .chosen ≤ 12 = node-few s c e v m sets given in length-take-le (sets .chosen - 1) (sets .set) (omega arith)
@@ -453,33 +447,19 @@ module _ (s : List ℕ) (c e v m : ℕ) (sets : Sets) (given : NodeGiven s c e v
 
   -- the parent as the code holds it
   pub parent-clean : (x : ℕ) → sets .chosen - 1 ≤ x → getD (set (sets .set) (sets .chosen - 1) 0) x 0 ≡ 0
-  parent-clean x h = go (ℕ-discrete x (sets .chosen - 1))
-    where
-      old : (z : ℕ) → sets .chosen ≤ z → getD (sets .set) z 0 ≡ 0
-      old = unfold Clean in given .clean
-
-      go : Dec (x ≡ sets .chosen - 1) → getD (set (sets .set) (sets .chosen - 1) 0) x 0 ≡ 0
-      go (yes q) = let k : sets .chosen ≤ 12 = node-few s c e v m sets given in ap (λ (i : ℕ). getD (set (sets .set) (sets .chosen - 1) 0) i 0) q ∙ getD-set-same (sets .set) (sets .chosen - 1) 0 0 (omega arith)
-      go (no q) = getD-set-other (sets .set) (sets .chosen - 1) x 0 0 q ∙ old x (omega arith)
+  unfolding Clean
+  parent-clean = clean-up (sets .set) (sets .chosen) some (let k : sets .chosen ≤ 12 = node-few s c e v m sets given in omega arith) (given .clean)
 
   pub parent-node : take (sets .chosen - 1) (set (sets .set) (sets .chosen - 1) 0) ≡ parent
   parent-node = take-set-le (sets .chosen - 1) (sets .set) (sets .chosen - 1) 0 (omega arith)
 
-  fills-of : (fill : List ℕ) → FillMasks (tableOf s .rows) (byteAt s 8) fill → Fills (tableOf s) c e fill
-  fills-of fill masks =
-      record {
-        constants = given .constants ∙ sym (node-layout s c e v m sets given .constants);
-        restrictions = given .restrictions ∙ sym (node-layout s c e v m sets given .rows);
-        masks = subst (λ (k : ℕ). FillMasks (tableOf s .rows) k fill) (sym (given .restrictions)) (masks);
-      }
-
   module _ (fill mask start : List ℕ) (ready : Prepares s fill mask start) where
     pub parent-shows : (rows : List ℕ) (above : Sets) → above .set ≡ set (sets .set) (sets .chosen - 1) 0 → above .chosen ≡ sets .chosen - 1 → Squares fill c e above rows → Shows (tableOf s) parent rows
-    parent-shows rows above e k square =
-        subst (λ (p : Node). Shows (tableOf s) p rows) same (unfold Squares in square (tableOf s) (fills-of fill (ready .fills)) (let h = parent-few in let n = parent-length in omega arith))
+    parent-shows rows above q k square =
+        subst (λ (p : Node). Shows (tableOf s) p rows) same (unfold Squares in square (tableOf s) (node-fills s c e v m sets given fill (ready .fills)) (let h = parent-few in let n = parent-length in omega arith))
       where
         same : nodeOf above ≡ parent
-        same = unfold nodeOf in (ap₂ (λ (i : ℕ) (l : List ℕ). take i l) k e ∙ parent-node)
+        same = unfold nodeOf in (ap₂ (λ (i : ℕ) (l : List ℕ). take i l) k q ∙ parent-node)
 
     module _ (rows : List ℕ) (shows : Shows (tableOf s) parent rows) where
       row-says : (u w : ℕ) → bit w (rowOf rows u) ≡ reaches (tableOf s) parent u w
@@ -493,7 +473,7 @@ module _ (s : List ℕ) (c e v m : ℕ) (sets : Sets) (given : NodeGiven s c e v
       direct-says : (x w : ℕ) → dependsBy fill c x e w ≡ depends (tableOf s) (childOf parent x) (length parent) w
       direct-says x w =
           ap (λ (z : ℕ). dependsBy fill c z e w) (sym (own-set x))
-          ∙ depends-filled (tableOf s) c e fill (fills-of fill (ready .fills)) (childOf parent x) (length parent) w
+          ∙ depends-filled (tableOf s) c e fill (node-fills s c e v m sets given fill (ready .fills)) (childOf parent x) (length parent) w
 
       -- what the newest variable leads to over another one
       abbrev Over : ℕ → ℕ → ℕ → Bool
@@ -591,9 +571,6 @@ module _ (s : List ℕ) (c e v m : ℕ) (sets : Sets) (given : NodeGiven s c e v
             lines = record { numbers = listed .numbers ∙ passing-same (isFresh mask (bitOr a (1 * 2 ^ y % 4294967296)) k) (λ n. freshly (tableOf s) parent (lineAt (tableOf s .lines) n)) m each; few-fit = listed .few-fit };
           }
         where
-          known : T (declared (tableOf s))
-          known = node-layout s c e v m sets given .all-declared
-
           here : y ≡ length parent
           here = q ∙ sym parent-length
 
@@ -607,10 +584,10 @@ module _ (s : List ℕ) (c e v m : ℕ) (sets : Sets) (given : NodeGiven s c e v
 
           each : (n : ℕ) → n < m → isFresh mask (bitOr a (1 * 2 ^ y % 4294967296)) k n ≡ freshly (tableOf s) parent (lineAt (tableOf s .lines) n)
           each n h =
-              fresh-says (tableOf s) known parent rows parent-few shows m n (bitOr a (1 * 2 ^ y % 4294967296)) k mask
+              fresh-says (tableOf s) known-table parent rows parent-few shows m n (bitOr a (1 * 2 ^ y % 4294967296)) k mask
               (subst (λ (i : ℕ). LineMasks (tableOf s) i mask) (sym (given .lines)) (ready .masks)) h
-              (about-says (tableOf s) known parent rows parent-few shows y a here small about)
-              (near-says (tableOf s) known parent rows parent-few shows y k here near)
+              (about-says (tableOf s) known-table parent rows parent-few shows y a here small about)
+              (near-says (tableOf s) known-table parent rows parent-few shows y k here near)
 
       -- the same, with the two masks at hand
       pub level-made : (level : Level) (turning leaving y a k : ℕ) → level .turning ≡ turning → level .leaving ≡ leaving → y ≡ sets .chosen - 1
@@ -623,10 +600,8 @@ module _ (s : List ℕ) (c e v m : ℕ) (sets : Sets) (given : NodeGiven s c e v
     pub parent-needs : (c + e ≤ 24) × (e ≤ length fill) × (sets .chosen - 1 ≤ 12) × Clean (record { set = set (sets .set) (sets .chosen - 1) 0; chosen = sets .chosen - 1 })
     unfolding Clean
     parent-needs =
-        let l = node-layout s c e v m sets given in
-        let f : byteAt s 5 + byteAt s 8 ≤ 24 = l .few-atoms in let a : c ≡ byteAt s 5 = given .constants in let b : e ≡ byteAt s 8 = given .restrictions in
-        let h : sets .chosen ≤ 12 = node-few s c e v m sets given in let r : length fill ≡ 24 = ready .fill-room in
-        (omega arith, omega arith, omega arith, parent-clean)
+        let q = square-needs s c e v m sets given fill (ready .fill-room) in let h : sets .chosen ≤ 12 = q .2 in
+        (q .0, q .1, omega arith, parent-clean)
 
     pub few-lines : (m ≤ 64) × (length mask ≡ 64)
     few-lines = let f : byteAt s 9 ≤ 64 = node-layout s c e v m sets given .few-lines in let q : m ≡ byteAt s 9 = given .lines in (omega arith, ready .mask-room)
@@ -634,9 +609,6 @@ module _ (s : List ℕ) (c e v m : ℕ) (sets : Sets) (given : NodeGiven s c e v
   -- THE TEST OF A CHILD
   module _ (start : List ℕ) (starts : LineStarts s (byteAt s 9) start) (start-room : length start ≡ 64) where
     module _ (level : Level) (is : Levels (tableOf s) parent m level) (parent-live : dead sameRole (tableOf s) parent ≡ false) where
-      known-table : T (declared (tableOf s))
-      known-table = node-layout s c e v m sets given .all-declared
-
       parent-straight : acyclic (tableOf s) parent ≡ true
       parent-straight = go (acyclic (tableOf s) parent) refl
         where
@@ -675,10 +647,6 @@ module _ (s : List ℕ) (c e v m : ℕ) (sets : Sets) (given : NodeGiven s c e v
               go (yes h) = absurd (false-not (newly (tableOf s) parent own w) (unfold Tells in is .leaving own .1 low w h) g)
               go (no h) = omega arith
 
-          same-sets : (x : ℕ) → setOf (nodeOf sets) x ≡ setOf (sets .set) x
-          unfolding setOf
-          same-sets x = set-node sets (given .clean) x
-
           -- what its lines' test asks
           pub below-given : FreshGiven s start c e v (level .fresh) (level .few) (sets .set)
           below-given =
@@ -690,7 +658,7 @@ module _ (s : List ℕ) (c e v m : ℕ) (sets : Sets) (given : NodeGiven s c e v
                 starts = starts;
                 room = start-room;
                 sets = room;
-                straight = subst T (ap (acyclic (tableOf s)) (sym node-child) ∙ acyclic-same (tableOf s) (nodeOf sets) (sets .set) same-sets) (true-is (acyclic (tableOf s) (childOf parent own)) straight);
+                straight = subst T (ap (acyclic (tableOf s)) (sym node-child) ∙ acyclic-same (tableOf s) (nodeOf sets) (sets .set) (same-sets sets (given .clean))) (true-is (acyclic (tableOf s) (childOf parent own)) straight);
                 few-fit = is .lines .few-fit;
                 in-table = λ i h. inside i h;
               }
@@ -719,7 +687,7 @@ module _ (s : List ℕ) (c e v m : ℕ) (sets : Sets) (given : NodeGiven s c e v
 
               at-child : (l : Line) → not (holds sameRole (tableOf s .rows) (induced (tableOf s) (sets .set)) l) ≡ not (holds sameRole (tableOf s .rows) (induced (tableOf s) (childOf parent own)) l)
               at-child l =
-                  ap not (sym (same-holds (tableOf s) (nodeOf sets) (sets .set) same-sets l)
+                  ap not (sym (same-holds (tableOf s) (nodeOf sets) (sets .set) (same-sets sets (given .clean)) l)
                   ∙ ap (λ (n : Node). holds sameRole (tableOf s .rows) (induced (tableOf s) n) l) node-child)
 
               here : (n : ℕ) → failsAt s (sets .set) n ≡ not (holds sameRole (tableOf s .rows) (induced (tableOf s) (childOf parent own)) (lineAt (tableOf s .lines) n))

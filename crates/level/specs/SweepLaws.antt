@@ -7,21 +7,22 @@
 --   at-start, at-next == the loop of the sweep
 --   at-child       == what the test of the one at hand asks
 --   swept-live, swept-over, swept-spent == its three ends
-use mathlib.Core.Path.{_≡_, refl, sym, ap, ap₂, subst, _∙_}
-use mathlib.Core.Bool.{Bool, true, false, not}
+use mathlib.Core.Path.{_≡_, refl, sym, ap, subst, _∙_}
+use mathlib.Core.Bool.{Bool, true, false}
 use mathlib.Core.List.{List}
-use Prim.Native.Nat.{ℕ, zero, suc, _+_, _-_, _≤_, _<_}
+use Prim.Native.Nat.{ℕ, _+_, _-_, _≤_, _<_}
 use native.Mathlib.Omega.{arith}
 use native.Mathlib.Decide.{ℕ-discrete}
 use native.Mathlib.Nat.{add-zero}
 use lib.Bits.{bitAnd}
 use lib.ListN.{length, getD, take, set, length-set}
-use lib.Seq.{take-set-le, getD-set-same, getD-set-other, set-getD, set-set}
+use lib.Seq.{take-set-le, getD-set-same, set-getD, set-set}
 use Rattle.el.specs.Description.{sameRole}
 use Rattle.el.specs.Table.{Table}
 use Rattle.el.specs.Walk.{Node, dead}
 use Rattle.table.specs.Reading.{tableOf}
-use Rattle.node.specs.Node.{nodeOf, Clean, NodeGiven}
+use Rattle.node.specs.Node.{nodeOf, Clean}
+use Rattle.node.specs.SquareLaws.{clean-next}
 use Rattle.node.specs.NodeTestLaws.{node-few}
 use Rattle.level.specs.declared.End.the-variants.{Live, Over, Spent}
 use Rattle.level.specs.LevelLaws.{dead-cycle, dead-open, below-given, dead-fresh}
@@ -51,11 +52,8 @@ child-sibling s start turning leaving fresh few c e v m k a x given =
     same : take (k - 1) (set a (k - 1) x) ≡ take (k - 1) a
     same = take-set-le (k - 1) a (k - 1) x (omega arith)
 
-    old : (y : ℕ) → k ≤ y → getD a y 0 ≡ 0
-    old = unfold Clean in given .node .clean
-
     clean : Clean (setsOf (set a (k - 1) x) k)
-    clean = unfold Clean in (λ y h. getD-set-other a (k - 1) y x 0 (let z : 0 < k = given .some in omega arith) ∙ old y h)
+    clean = unfold Clean in clean-next a k x (given .some) (given .node .clean)
 
 pub record At (t : Table) (a : List ℕ) (k last passed : ℕ) (here : List ℕ) : Type 0 where
   pub is : here ≡ siblingOf (setsOf a k) (ownOf (setsOf a k) + passed)

@@ -4,17 +4,17 @@
 --   a-line       == a part that is not empty: the table is readable and has a line n
 --   line-within  == a line lies inside its table
 --   line-spanned == the start and the length of a line that is there
-use mathlib.Core.Path.{_≡_, refl, sym, ap, _∙_}
+use mathlib.Core.Path.{_≡_, refl, ap}
 use mathlib.Core.Bool.{Bool, true, false, _&&_, cond}
 use mathlib.Core.List.{List, [], _∷_}
 use Prim.Native.Nat.{ℕ, _+_, _≤_, _<_}
 use native.Mathlib.Omega.{arith}
 use lib.Dec.{T, ltb}
-use lib.ListN.{length, take, drop, getD}
+use lib.ListN.{length}
 use borrow.Author.Tests.{lt-ltb, ltb-true}
 use Rattle.table.specs.Reading.{byteAt, reading, isReadable}
 use Rattle.table.specs.Layout.{lineStart}
-use Rattle.table.specs.LayoutLaws.{layout}
+use Rattle.table.specs.LayoutLaws.{line-inside}
 use Rattle.makrothel.specs.Answer.{linePart}
 use Rattle.makrothel.specs.C.{hasLine, lineFound, lineSpan, spanned}
 use Rattle.makrothel.specs.Unique.{line-length}
@@ -71,7 +71,7 @@ module _ (s : List ℕ) (n : ℕ) where
 
   module _ (h : There s n) (at : ℕ) (a : at ≡ lineStart s n) where
     pub line-within : at + byteAt s at + 2 ≤ length s
-    line-within = rw a (layout s (h .0) .line-in n (h .1))
+    line-within = line-inside s (h .0) n at (h .1) a
 
     pub line-spanned : (p : ℕ) → p ≡ byteAt s at → Told s n 1 at (p + 2)
     line-spanned p e = rw (e, a) (told true (there-has h))

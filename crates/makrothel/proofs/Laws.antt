@@ -1,6 +1,6 @@
 -- Laws that carry the public calls to what they answer.
 --
---   readable-is   == where the verdict is "readable" the reading is
+--   header-there  == where the verdict is "readable" the table has a header
 --   read-refused  == the reader's answer to a refused table
 --   read-readable == the reader's answer to a readable one
 --   line-refused  == an unreadable table has no line
@@ -19,12 +19,11 @@ use lib.ListN.{length, take, drop}
 use borrow.Author.Tests.{lt-ltb, le-ltb}
 use Rattle.table.specs.declared.Verdict.the-variants.{Refused, Readable}
 use Rattle.el.specs.Description.{sameRole}
-use Rattle.el.specs.Table.{Table}
-use Rattle.el.specs.Walk.{Outcome, outcome}
+use Rattle.el.specs.Walk.{outcome}
 use Rattle.table.specs.Reading.{byteAt, Header, headerOf, Reading, refusal, readable, reading, isReadable, tableOf}
 use Rattle.table.specs.Step.{verdictOf}
 use Rattle.table.specs.Layout.{lineStart}
-use Rattle.table.specs.LayoutLaws.{layout, readable-header}
+use Rattle.table.specs.LayoutLaws.{layout, readable-header, refused-readable, readable-is, line-inside}
 use Rattle.node.specs.Node.{nodeOf}
 use Rattle.walk.specs.declared.End.{End}
 use Rattle.walk.specs.declared.End.the-variants.{Found, Nothing, Spent}
@@ -32,24 +31,13 @@ use Rattle.walk.specs.declared.Walked.{Walked}
 use Rattle.walk.specs.Step as step
 use Rattle.output.specs.Written.{written}
 use Rattle.makrothel.specs.Answer.{readAnswer, linePart}
-use Rattle.makrothel.specs.Solve.{Answered, refusedAs, outcomeAs, tableAs, readingAs, answer}
+use Rattle.makrothel.specs.Solve.{Answered, refusedAs, outcomeAs, readingAs, answer}
 use Rattle.makrothel.specs.Demand2.{answer-outcome}
 use Rattle.makrothel.specs.Demand1.{answer-short}
 
-refused-readable : (n p : ℕ) → Refused n p ≡ Readable → ⊥
-refused-readable n p q = let z : _≡_ {A = ℕ} 0 1 = cc in omega arith
-
 module _ (s : List ℕ) where
-  pub readable-is : verdictOf (reading s) ≡ Readable → T (isReadable (reading s))
-  unfolding verdictOf
-  readable-is q = go (reading s) q
-    where
-      go : (x : Reading) → verdictOf x ≡ Readable → T (isReadable x)
-      go (refusal n p) q = absurd (refused-readable n p q)
-      go (readable h t) q = tt
-
   pub header-there : verdictOf (reading s) ≡ Readable → 10 ≤ length s
-  header-there q = layout s (readable-is q) .header-in
+  header-there q = layout s (readable-is s q) .header-in
 
   pub read-refused : (n p : ℕ) → verdictOf (reading s) ≡ Refused n p
       → record { number = n; place = p; constants = 0; roles = 0; variables = 0; restrictions = 0; lines = 0 } ≡ readAnswer (reading s)
@@ -81,7 +69,7 @@ module _ (s : List ℕ) where
   module _ (ok : verdictOf (reading s) ≡ Readable) (k : ℕ) where
     tested : (b : Bool) → ltb k (byteAt s 9) ≡ b → cond b (take (byteAt s (lineStart s k) + 2) (drop (lineStart s k) s)) [] ≡ linePart s k
     unfolding linePart
-    tested b e = rw (sym e) (go (isReadable (reading s)) (readable-is ok))
+    tested b e = rw (sym e) (go (isReadable (reading s)) (readable-is s ok))
       where
         go : (x : Bool) → T x → cond (ltb k (byteAt s 9)) (take (byteAt s (lineStart s k) + 2) (drop (lineStart s k) s)) [] ≡ cond (x && ltb k (byteAt s 9)) (take (byteAt s (lineStart s k) + 2) (drop (lineStart s k) s)) []
         go true t = refl
@@ -91,7 +79,7 @@ module _ (s : List ℕ) where
     line-over m e h = tested false (le-ltb k (byteAt s 9) (omega arith))
 
     pub line-room : (at : ℕ) → k < byteAt s 9 → at ≡ lineStart s k → at + byteAt s at + 2 ≤ length s
-    line-room at h a = rw a (layout s (readable-is ok) .line-in k h)
+    line-room at h a = line-inside s (readable-is s ok) k at h a
 
     pub line-there : (at p : ℕ) → k < byteAt s 9 → at ≡ lineStart s k → p ≡ byteAt s at → take (at + p + 2 - at) (drop at s) ≡ linePart s k
     line-there at p h a e =

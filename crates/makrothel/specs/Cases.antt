@@ -5,19 +5,18 @@
 --   Answers k   == for every output with room the answer is the one that the outcome gives
 --   cases-hold  == every case answers so
 use mathlib.Core.Path.{_≡_, refl, sym, ap, subst, _∙_}
-use mathlib.Core.Bool.{Bool, true, false}
 use mathlib.Core.List.{List, [], _∷_, _++_}
 use Prim.Native.Nat.{ℕ, _*_, _≤_}
 use lib.ListN.{length}
 use Rattle.el.specs.Test.{anyBelow, allBelow, anyOf, everyOf, bit}
 use Rattle.el.specs.Description.{sameRole}
-use Rattle.el.specs.Table.{Table, rowAt, atoms}
+use Rattle.el.specs.Table.{rowAt, atoms}
 use Rattle.el.specs.Meaning.{holds}
 use Rattle.el.specs.Assignment.{setOf, depends, path, reaches, acyclic, atomUnder, conjoin, setUnder, inducedTo, induced}
 use Rattle.el.specs.Walk.{chosen, lineVariables, settled, ready, fails, dead, full, ends, inTurn, subtree, nodes, upToFirst, firstOf, examined, count, Outcome, solved, nothing, budget, outcome}
 use Rattle.table.specs.Code.{kindOf, within, fillerOfKind, fillerOf, entryOfKind, entryOf}
-use Rattle.table.specs.Reading.{marked, versionOne, readHeader, readRow, readRows, readEntry, readEntries, readLine, readLines, readBody, Header, Reading, refusal, readable, theTable, headerOf, reading, tableOf}
-use Rattle.makrothel.specs.Solve.{Answered, outcomeAs, answer}
+use Rattle.table.specs.Reading.{marked, versionOne, readHeader, readRow, readRows, readEntry, readEntries, readLine, readLines, readBody, readable, headerOf, reading, tableOf}
+use Rattle.makrothel.specs.Solve.{outcomeAs, answer}
 use Rattle.makrothel.specs.Demand2.{answer-outcome}
 
 pub record Case : Type 0 where

@@ -1,23 +1,24 @@
 -- DEMAND 1: every byte string, every budget and every output gets a number of 0 to 9 with its count and place, and a refusal changes nothing.
 --
 --   NumberAt s b n k p == number n with count k and place p is a row of the specification's table of numbers, for the bytes s and the budget b
+--   number-bound       == such a number is at most 9
+--   Row s b out r      == the answer r is such a row, and keeps what it must of the output
+--   answer-refused, answer-short == the answer to a refusal of the reader, and where the output is too short
 --   demand-1-row       == every answer is such a row
 --   demand-1-number    == its number is at most 9
 --   demand-1-kept      == under every number but 0 the output stays
 --   demand-1-written   == under 0 the bytes from 4v on stay, and so does the output's length
-use mathlib.Core.Path.{_≡_, refl, sym, ap, ap₂, subst, _∙_}
-use mathlib.Core.Bool.{Bool, true, false}
-use mathlib.Core.List.{List, _++_}
-use Prim.Native.Nat.{ℕ, _+_, _*_, _≤_, _<_}
+use mathlib.Core.Path.{_≡_, refl, sym, ap, subst, _∙_}
+use mathlib.Core.List.{List}
+use Prim.Native.Nat.{ℕ, _*_, _≤_, _<_}
 use native.Mathlib.Omega.{arith}
 use native.Mathlib.Decide.{decLe}
-use lib.Dec.{ltb}
 use lib.ListN.{length, drop}
 use lib.Seq.{drop-at}
-use borrow.Author.Tests.{lt-ltb, le-ltb}
+use borrow.Author.Tests.{lt-ltb}
 use Rattle.el.specs.Description.{sameRole}
 use Rattle.el.specs.Table.{Table}
-use Rattle.el.specs.Assignment.{Assignment, IsAssignment}
+use Rattle.el.specs.Assignment.{IsAssignment}
 use Rattle.el.specs.Walk.{Outcome, solved, nothing, budget, count, outcome}
 use Rattle.el.specs.OutcomeLaws.{OutcomeSays, outcome-says}
 use Rattle.table.specs.Reading.{Header, Reading, refusal, readable, reading, tableOf}
@@ -68,6 +69,10 @@ written-behind v a out e h = (subst (λ (k : ℕ). drop (4 * k) (written a out) 
 
 module _ (s : List ℕ) (b : ℕ) (out : List ℕ) where
   -- the answer to a refusal of the reader
+  pub answer-refused : (n p : ℕ) → reading s ≡ refusal n p → answer s b out ≡ refusedAs n p out
+  unfolding answer
+  answer-refused n p e = ap (λ (r : Reading). readingAs r b out) e
+
   unread : (n p : ℕ) → reading s ≡ refusal n p → Row s b out (refusedAs n p out)
   unread n p e =
       let r : RefusedAt s n p = refusal-placed s n p e in
@@ -104,11 +109,8 @@ module _ (s : List ℕ) (b : ℕ) (out : List ℕ) where
   answer-row : Row s b out (answer s b out)
   answer-row = go (reading s) refl
     where
-      refused-answer : (n p : ℕ) → reading s ≡ refusal n p → answer s b out ≡ refusedAs n p out
-      refused-answer n p e = unfold answer in ap (λ (r : Reading). readingAs r b out) e
-
       go : (r : Reading) → reading s ≡ r → Row s b out (answer s b out)
-      go (refusal n p) e = subst (Row s b out) (sym (refused-answer n p e)) (unread n p e)
+      go (refusal n p) e = subst (Row s b out) (sym (answer-refused n p e)) (unread n p e)
       go (readable h t) e = read h t e (decLe (4 * t .variables) (length out))
 
   -- EVERY INPUT GETS A ROW OF THE TABLE OF NUMBERS

@@ -3,17 +3,19 @@
 --   FirstSolving t a == a is an assignment of t that solves it, and none before it in counting order does
 --   NoneSolves t     == no assignment of t solves it
 --   N t              == how many nodes the walk examines
+--   known            == the table of a reading is declared
+--   answer-outcome   == with room the answer is the outcome of the walk
+--   Says r           == the answer r is one of the three; answer-says, so it is
 --   demand-2-solved  == number 0 exactly if N is within the budget and some assignment solves; it comes with the first, and count N
 --   demand-2-none    == number 8 exactly if N is within the budget and none solves; count N, and the output stays
 --   demand-2-budget  == number 9 exactly if N is greater than the budget b; count b, and the output stays
-use mathlib.Core.Path.{_≡_, refl, sym, ap, ap₂, subst, _∙_}
-use mathlib.Core.Bool.{Bool, true, false}
+--   demand-2-decides == within the budget the number is 0 where some assignment solves, and 8 where none does
+use mathlib.Core.Path.{_≡_, refl, sym, ap, subst, _∙_}
 use mathlib.Core.Logic.{_↔_}
 use mathlib.Core.List.{List}
-use Prim.Native.Nat.{ℕ, _+_, _*_, _≤_, _<_}
+use Prim.Native.Nat.{ℕ, _*_, _≤_, _<_}
 use native.Mathlib.Omega.{arith}
-use native.Mathlib.Decide.{decLe}
-use lib.Dec.{T, ltb}
+use lib.Dec.{T}
 use lib.ListN.{length}
 use borrow.Author.Tests.{le-ltb}
 use Rattle.el.specs.Description.{sameRole}
@@ -22,8 +24,7 @@ use Rattle.el.specs.Assignment.{Assignment, IsAssignment, Solves, solves, Befor
 use Rattle.el.specs.Walk.{Outcome, solved, nothing, budget, count, outcome}
 use Rattle.el.specs.LocalityLaws.{solves-means}
 use Rattle.el.specs.OutcomeLaws.{OutcomeSays, outcome-says}
-use Rattle.table.specs.Reading.{Header, Reading, refusal, readable, reading, isReadable, tableOf}
-use Rattle.table.specs.Layout.{Layout}
+use Rattle.table.specs.Reading.{Header, Reading, readable, reading, isReadable}
 use Rattle.table.specs.LayoutLaws.{layout, readable-header}
 use Rattle.output.specs.Written.{written}
 use Rattle.makrothel.specs.Solve.{Answered, outcomeAs, tableAs, readingAs, answer}

@@ -1,20 +1,24 @@
 -- DEMAND 3: an answer survives growth.
 --
+--   Walked s out, walked == an answer of 0 or 8 comes from a readable table with room
 --   demand-3-none     == "none" means that no descriptions of any depth, over any names, make every line true
+--   demand-3-solved   == "solved" means that some descriptions do
 --   demand-3-grown    == no growth of a "none" table is ever "solved", under any budget and output
 --   demand-3-widened  == no growth without new lines of a "solved" table is ever "none"
+--   Sized t o         == the assignment of the outcome o has a set for each variable
+--   SameAnswer s q r  == the answers q and r have the same number, count and place, and the same bytes of the sets
 --   demand-3-budget   == a larger budget with enough room gives the same number, count, place and bytes
-use mathlib.Core.Path.{_≡_, refl, sym, ap, ap₂, subst, _∙_}
-use mathlib.Core.Bool.{Bool, true, false}
-use mathlib.Core.Logic.{_⊎_, inl, inr, _↔_}
+use mathlib.Core.Path.{_≡_, refl, sym, ap, subst, _∙_}
+use mathlib.Core.Logic.{_⊎_, inl, inr}
 use mathlib.Core.List.{List}
-use Prim.Native.Nat.{ℕ, _+_, _*_, _≤_, _<_}
+use Prim.Native.Nat.{ℕ, _*_, _≤_}
 use native.Mathlib.Omega.{arith}
 use native.Mathlib.Decide.{decLe}
-use lib.Dec.{T, eqb→eq, eqb, eqb-refl}
+use lib.Dec.{T}
 use lib.ListN.{length, take, drop}
 use lib.Seq.{take-at}
 use Rattle.el.specs.Description.{sameRole}
+use Rattle.el.specs.OrderLaws.{sameRole-refl, sameRole-trans}
 use Rattle.el.specs.Table.{Table, declared}
 use Rattle.el.specs.Meaning.{Substitution, makes}
 use Rattle.el.specs.Assignment.{Assignment, IsAssignment, Solves, induced}
@@ -22,25 +26,16 @@ use Rattle.el.specs.Walk.{Outcome, solved, nothing, budget, outcome}
 use Rattle.el.specs.OutcomeLaws.{OutcomeSays, outcome-says, more-budget}
 use Rattle.el.specs.LocalityLaws.{locality, solving-substitution}
 use Rattle.el.specs.GrowthLaws.{growth-back, growth-same}
-use Rattle.table.specs.Reading.{Header, Reading, refusal, readable, reading, isReadable, tableOf}
+use Rattle.table.specs.Reading.{Header, Reading, refusal, readable, reading, tableOf}
 use Rattle.table.specs.LayoutLaws.{readable-header}
 use Rattle.output.specs.Written.{setBytes, written}
 use Rattle.output.proofs.Laws.{setBytes-length}
 use Rattle.makrothel.specs.RefusalLaws.{refusal-placed, refused-number}
-use Rattle.makrothel.specs.Solve.{Answered, refusedAs, outcomeAs, tableAs, readingAs, answer}
+use Rattle.makrothel.specs.Solve.{Answered, refusedAs, outcomeAs, answer}
 use Rattle.makrothel.specs.Grown.{Grown, SameLines}
 use Rattle.makrothel.specs.GrownLaws.{grown-grows, grown-lines}
-use Rattle.makrothel.specs.Demand1.{answer-short}
+use Rattle.makrothel.specs.Demand1.{answer-refused, answer-short}
 use Rattle.makrothel.specs.Demand2.{FirstSolving, NoneSolves, N, known, answer-outcome, demand-2-solved, demand-2-none}
-
--- the role relation of version 1 is an order
-same-refl : (r : ℕ) → T (sameRole r r)
-unfolding sameRole
-same-refl r = eqb-refl r
-
-same-trans : (r s u : ℕ) → T (sameRole r s) → T (sameRole s u) → T (sameRole r u)
-unfolding sameRole
-same-trans r s u p q = subst (λ (x : ℕ). T (eqb r x)) (eqb→eq s u q) p
 
 ----------------------------------------------------------------------------------------------------
 -- An answer of 0 or 8 comes from a readable table with room
@@ -60,9 +55,6 @@ module _ (s : List ℕ) (b : ℕ) (out : List ℕ) where
           let m : answer s b out .number ≡ n = ap (λ (r : Answered). r .number) e in
           elim w [ inl z ↦ f (sym m ∙ z) | inr z ↦ g (sym m ∙ z) ]
 
-      unread : (n p : ℕ) → reading s ≡ refusal n p → answer s b out ≡ refusedAs n p out
-      unread n p e = unfold answer in ap (λ (r : Reading). readingAs r b out) e
-
       room-of : (h : Header) (t : Table) → reading s ≡ readable h t → Dec (4 * t .variables ≤ length out) → Walked s out
       room-of h t e (yes r) = record { header = h; table = t; read = e; room = r }
       room-of h t e (no r) = absurd (neither 7 (4 * t .variables) (answer-short s b out h t e (omega arith)) (λ z. omega arith) (λ z. omega arith))
@@ -70,7 +62,7 @@ module _ (s : List ℕ) (b : ℕ) (out : List ℕ) where
       go : (r : Reading) → reading s ≡ r → Walked s out
       go (refusal n p) e =
           let q = refused-number (refusal-placed s n p e) in
-          absurd (neither n p (unread n p e) (λ z. omega arith) (λ z. omega arith))
+          absurd (neither n p (answer-refused s b out n p e) (λ z. omega arith) (λ z. omega arith))
       go (readable h t) e = room-of h t e (decLe (4 * t .variables) (length out))
 
 -- the table of a reading
@@ -90,7 +82,7 @@ module _ (s : List ℕ) (b : ℕ) (out : List ℕ) where
       let w = walked s b out (inr e) in
       let f = demand-2-none s (w .header) (w .table) (w .read) b out (w .room) .0 e in
       let γ-makes : T (makes sameRole (w .table) γ) = subst (λ (u : Table). T (makes sameRole u γ)) (sym (the-table s (w .header) (w .table) (w .read))) m in
-      let l = locality sameRole same-refl same-trans (w .table) (known s (w .header) (w .table) (w .read)) γ γ-makes in
+      let l = locality sameRole sameRole-refl sameRole-trans (w .table) (known s (w .header) (w .table) (w .read)) γ γ-makes in
       nowhere (w .table) (f .1) (l .0) (l .1) (l .3)
     where
       nowhere : (t : Table) → NoneSolves t → (a : Assignment) → IsAssignment t a → Solves sameRole t a → ⊥

@@ -3,49 +3,33 @@
 --   filler-code, entry-code == a code that is allowed under two headers writes the same under both
 --   grown-grows  == the table of the grown bytes grows from the other's
 --   grown-lines  == and where no line is new it has the same lines
-use mathlib.Core.Path.{_≡_, refl, sym, ap, ap₂, subst, _∙_}
-use mathlib.Core.Bool.{Bool, true, false, cond}
-use mathlib.Core.List.{List, [], _∷_, _++_}
-use mathlib.Core.Option.{Option, none, some}
-use Prim.Native.Nat.{ℕ, zero, suc, _+_, _-_, _*_, _≤_, _<_, min}
+use mathlib.Core.Path.{_≡_, sym, ap, ap₂, subst, _∙_}
+use mathlib.Core.List.{List, [], _++_}
+use mathlib.Core.Option.{some, Option·none-ne-some, Option·some-injective}
+use Prim.Native.Nat.{ℕ, zero, suc, _+_, _-_, _*_, _≤_, _<_}
 use native.Mathlib.Omega.{arith}
-use lib.Dec.{T, ltb}
-use lib.ListN.{length, getD, take, drop, length-take, length-drop, length-append, take-append-drop, List·getD-append}
-use lib.Seq.{getD-take, getD-drop, ext-getD, length-take-le, take-all}
-use Rattle.el.specs.Table.{Filler, topF, constantF, variableF, Entry, constant, restriction, variable, Row, Line, Table, rowAt}
+use lib.ListN.{length, getD, take, drop, length-take, length-drop, take-append-drop, List·getD-append}
+use lib.Seq.{getD-take, getD-drop, ext-getD, length-take-le}
+use Rattle.el.specs.Table.{Filler, topF, constantF, variableF, Entry, constant, restriction, variable, rowAt}
 use Rattle.el.specs.Growth.{Grows}
 use Rattle.table.specs.declared.Kind.{Kind}
 use Rattle.table.specs.declared.Kind.the-variants.{Top, Constant, Restriction, Variable, Other}
-use Rattle.table.specs.Code.{kindOf, within, fillerOfKind, fillerOf, entryOfKind, entryOf}
-use Rattle.table.specs.Reading.{byteAt, reading, isReadable, tableOf}
+use Rattle.table.specs.Code.{kindOf, fillerOfKind, fillerOf, entryOfKind, entryOf}
+use Rattle.table.specs.Reading.{byteAt, tableOf}
 use Rattle.table.specs.Layout.{lineAt, lineStart, Layout}
-use Rattle.table.specs.LayoutLaws.{layout}
+use Rattle.table.specs.LayoutLaws.{within-some, layout}
 use Rattle.makrothel.specs.Grown.{rowBytes, lineBytes, Grown, SameLines}
 
 ----------------------------------------------------------------------------------------------------
 -- Codes keep their meaning
 
-within-is : {A : Type 0} (k n : ℕ) (x y : A) → within k n x ≡ some y → x ≡ y
-unfolding within
-within-is k n x y e = go (ltb k n) e
-  where
-    go : (b : Bool) → cond b (some x) none ≡ some y → x ≡ y
-    go true q = cc
-    go false q = absurd (let z : _≡_ {A = ℕ} 0 1 = cc in let w : ⊥ = omega arith in w)
-
-none-some : {A : Type 0} (x : A) → none ≡ some x → ⊥
-none-some x e = let z : _≡_ {A = ℕ} 0 1 = cc in omega arith
-
-some-same : {A : Type 0} (x y : A) → some x ≡ some y → x ≡ y
-some-same x y e = cc
-
 filler-kind : (c v d w : ℕ) (k : Kind) (f g : Filler) → fillerOfKind c v k ≡ some f → fillerOfKind d w k ≡ some g → f ≡ g
 unfolding fillerOfKind
-filler-kind c v d w Top f g p q = some-same f g (sym p ∙ q)
-filler-kind c v d w (Constant k) f g p q = sym (within-is k c (constantF k) f p) ∙ within-is k d (constantF k) g q
-filler-kind c v d w (Restriction k) f g p q = absurd (none-some f p)
-filler-kind c v d w (Variable k) f g p q = sym (within-is k v (variableF k) f p) ∙ within-is k w (variableF k) g q
-filler-kind c v d w Other f g p q = absurd (none-some f p)
+filler-kind c v d w Top f g p q = Option·some-injective f g (sym p ∙ q)
+filler-kind c v d w (Constant k) f g p q = sym (within-some k c (constantF k) f p .1) ∙ within-some k d (constantF k) g q .1
+filler-kind c v d w (Restriction k) f g p q = absurd (Option·none-ne-some f p)
+filler-kind c v d w (Variable k) f g p q = sym (within-some k v (variableF k) f p .1) ∙ within-some k w (variableF k) g q .1
+filler-kind c v d w Other f g p q = absurd (Option·none-ne-some f p)
 
 pub filler-code : (c v d w b : ℕ) (f g : Filler) → fillerOf c v b ≡ some f → fillerOf d w b ≡ some g → f ≡ g
 unfolding fillerOf
@@ -53,11 +37,11 @@ filler-code c v d w b f g p q = filler-kind c v d w (kindOf b) f g p q
 
 entry-kind : (c e v d i w : ℕ) (k : Kind) (f g : Entry) → entryOfKind c e v k ≡ some f → entryOfKind d i w k ≡ some g → f ≡ g
 unfolding entryOfKind
-entry-kind c e v d i w Top f g p q = absurd (none-some f p)
-entry-kind c e v d i w (Constant k) f g p q = sym (within-is k c (constant k) f p) ∙ within-is k d (constant k) g q
-entry-kind c e v d i w (Restriction k) f g p q = sym (within-is k e (restriction k) f p) ∙ within-is k i (restriction k) g q
-entry-kind c e v d i w (Variable k) f g p q = sym (within-is k v (variable k) f p) ∙ within-is k w (variable k) g q
-entry-kind c e v d i w Other f g p q = absurd (none-some f p)
+entry-kind c e v d i w Top f g p q = absurd (Option·none-ne-some f p)
+entry-kind c e v d i w (Constant k) f g p q = sym (within-some k c (constant k) f p .1) ∙ within-some k d (constant k) g q .1
+entry-kind c e v d i w (Restriction k) f g p q = sym (within-some k e (restriction k) f p .1) ∙ within-some k i (restriction k) g q .1
+entry-kind c e v d i w (Variable k) f g p q = sym (within-some k v (variable k) f p .1) ∙ within-some k w (variable k) g q .1
+entry-kind c e v d i w Other f g p q = absurd (Option·none-ne-some f p)
 
 pub entry-code : (c e v d i w b : ℕ) (f g : Entry) → entryOf c e v b ≡ some f → entryOf d i w b ≡ some g → f ≡ g
 unfolding entryOf

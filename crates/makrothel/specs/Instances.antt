@@ -1,35 +1,34 @@
 -- The demands at concrete tables, so that no hypothesis of theirs is empty.
 --
---   p5-answer, p8-answer, p12-answer == the three cases, for every output with room
+--   p5-answer, p8-answer, p9-answer, p12-answer == the answers to four cases
 --   p5-more, p8-more, p12-more       == a growth of each
 --   refusal-instance                 == demand 1 at the empty input
+--   p5-kept, p8-behind               == demand 1: what stays of the output
 --   p8-first, p5-nothing, p9-over    == demand 2
 --   p5-any-depth, p12-any-depth      == demand 3: no substitution whatever
 --   p5-grown-never, p12-grown-never  == demand 3: no growth is solved, under any budget and output
 --   p8-widened-never                 == demand 3: no growth without new lines is none
 --   p8-larger-budget                 == demand 3: a larger budget
-use mathlib.Core.Path.{_≡_, refl, sym, ap, subst, _∙_}
-use mathlib.Core.Bool.{Bool, true, false}
-use mathlib.Core.Logic.{_⊎_, inl, inr}
-use mathlib.Core.List.{List, [], _∷_, _++_}
-use Prim.Native.Nat.{ℕ, _+_, _*_, _≤_, _<_}
+use mathlib.Core.Path.{_≡_, refl, sym, ap, _∙_}
+use mathlib.Core.Logic.{inl}
+use mathlib.Core.List.{List, [], _∷_}
+use Prim.Native.Nat.{ℕ, _*_, _≤_, _<_}
 use native.Mathlib.Omega.{arith}
 use lib.Dec.{T}
-use lib.ListN.{length, take, drop}
+use lib.ListN.{length}
 use Rattle.el.specs.Description.{sameRole}
-use Rattle.el.specs.Table.{Table}
 use Rattle.el.specs.Meaning.{Substitution, makes}
 use Rattle.el.specs.Assignment.{Assignment}
 use Rattle.el.specs.Walk.{solved, nothing, budget}
 use Rattle.table.specs.Code.{kindOf, within, fillerOfKind, fillerOf, entryOfKind, entryOf}
-use Rattle.table.specs.Reading.{marked, versionOne, readHeader, readRow, readRows, readEntry, readEntries, readLine, readLines, readBody, readable, reading, isReadable, headerOf, tableOf}
+use Rattle.table.specs.Reading.{marked, versionOne, readHeader, readRow, readRows, readEntry, readEntries, readLine, readLines, readBody, readable, reading, headerOf, tableOf}
 use Rattle.output.specs.Written.{written}
 use Rattle.makrothel.specs.Solve.{Answered, outcomeAs, answer}
 use Rattle.makrothel.specs.Grown.{rowBytes, lineBytes, Grown, SameLines}
-use Rattle.makrothel.specs.Demand1.{NumberAt, demand-1-row, demand-1-number, demand-1-kept, demand-1-written}
+use Rattle.makrothel.specs.Demand1.{demand-1-kept, demand-1-written}
 use Rattle.makrothel.specs.Demand2.{FirstSolving, NoneSolves, N, demand-2-solved, demand-2-none, demand-2-budget}
 use Rattle.makrothel.specs.Demand3.{SameAnswer, demand-3-none, demand-3-grown, demand-3-widened, demand-3-budget}
-use Rattle.makrothel.specs.Cases.{Case, p5, p8, p9, p12, Answers, cases-hold}
+use Rattle.makrothel.specs.Cases.{p5, p8, p12, Answers, cases-hold}
 
 -- an output of eight bytes has room for two variables
 abbrev eight : List ℕ

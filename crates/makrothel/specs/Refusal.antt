@@ -1,7 +1,6 @@
 -- The numbers and places of the reader's refusals, as the specification's table has them.
 --
 --   RefusedAt s n p == n is a refusal of 1 to 6 with its place p in the bytes s
-use mathlib.Core.Path.{_≡_}
 use mathlib.Core.List.{List}
 use Prim.Native.Nat.{ℕ, _≤_, _<_}
 use lib.ListN.{length}

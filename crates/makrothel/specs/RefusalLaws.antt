@@ -2,10 +2,10 @@
 --
 --   Placed s r        == where r is a refusal, its number and place are right; where it is not, it goes on from byte 10 or later
 --   refusal-placed    == every refusal of `reading` has its number and place
---   refusal-number    == so its number is neither 0 nor greater than 6
-use mathlib.Core.Path.{_≡_, refl, sym, ap, subst, _∙_}
+--   refused-number    == so its number is neither 0 nor greater than 6
+use mathlib.Core.Path.{_≡_, refl, subst}
 use mathlib.Core.Bool.{Bool, true, false, not}
-use mathlib.Core.List.{List, [], _∷_}
+use mathlib.Core.List.{List}
 use mathlib.Core.Option.{Option, none, some}
 use Prim.Native.Nat.{ℕ, zero, suc, _+_, _≤_, _<_}
 use native.Mathlib.Omega.{arith}
@@ -13,8 +13,8 @@ use lib.Dec.{leb, ltb}
 use lib.ListN.{length}
 use borrow.Author.Tests.{leb-false, ltb-true, ltb-false}
 use Rattle.table.specs.Code.{fillerOf, entryOf}
-use Rattle.table.specs.Reading.{Read, refused, got, refuseIf, andThen, orRefused, byteAt, missing, Header, headerOf, marked, versionOne, readHeader, readRow, readRows, readEntry, readEntries, readLine, readLines, readBody, Reading, refusal, readable, whole, fromHeader, reading, maxRoles, maxVariables, maxAtoms, maxLines, maxLeft}
-use Rattle.el.specs.Table.{Row, Entry, Line, Table}
+use Rattle.table.specs.Reading.{Read, refused, got, refuseIf, andThen, orRefused, byteAt, missing, Header, marked, versionOne, readHeader, readRow, readRows, readEntry, readEntries, readLine, readLines, readBody, refusal, whole, fromHeader, reading, maxRoles, maxVariables, maxAtoms, maxLines, maxLeft}
+use Rattle.el.specs.Table.{Table}
 use Rattle.makrothel.specs.Refusal.{RefusedAt, ends-early, wrong-mark, wrong-version, over-bound, not-allowed, bytes-after}
 
 module _ (s : List ℕ) where

@@ -5,7 +5,7 @@
 --   refusedAs n p out    == a refusal: count 0, and the output stays
 --   outcomeAs o out      == what an outcome of the walk is answered by
 --   answer s b out       == the answer to the bytes s with the budget b and the output out
-use mathlib.Core.Bool.{Bool, true, false}
+use mathlib.Core.Bool.{true, false}
 use mathlib.Core.List.{List}
 use Prim.Native.Nat.{ℕ, _*_}
 use lib.Dec.{ltb}

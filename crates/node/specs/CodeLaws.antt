@@ -8,13 +8,12 @@
 --   entry-bare, entry-variable, entry-row == the variables of an entry, by the kind of its code
 --   entry-fits, entry-row-in == they, and the restriction, are declared
 use mathlib.Core.Path.{_≡_, refl, sym, ap, subst, _∙_}
-use mathlib.Core.Bool.{Bool, true, false, cond}
+use mathlib.Core.Bool.{Bool, true, false, or-false}
 use mathlib.Core.List.{List, [], _∷_}
-use mathlib.Core.Option.{Option, none, some}
+use mathlib.Core.Option.{some, Option·none-ne-some}
 use Prim.Native.Nat.{ℕ, _*_, _%_, _^_, _<_}
-use native.Mathlib.Omega.{arith}
-use borrow.Author.Tests.{eq-eqb, ltb-true}
-use lib.Dec.{T, eqb, ltb, eqb→eq}
+use borrow.Author.Tests.{eq-eqb}
+use lib.Dec.{T, eqb, eqb→eq}
 use Rattle.el.specs.Test.{anyOf, bit}
 use Rattle.el.specs.TestLaws.{bit-none, same-test}
 use Rattle.el.specs.Table.{Filler, topF, constantF, variableF, Entry, constant, restriction, variable, Row, rowAt}
@@ -22,9 +21,10 @@ use Rattle.el.specs.Assignment.{isVariable}
 use Rattle.el.specs.Walk.{fillerVariables, entryVariables}
 use Rattle.table.specs.declared.Kind.{Kind}
 use Rattle.table.specs.declared.Kind.the-variants.{Top, Constant, Restriction, Variable, Other}
-use Rattle.table.specs.Code.{kindOf, within, fillerOfKind, fillerOf, entryOfKind, entryOf}
+use Rattle.table.specs.Code.{kindOf, fillerOfKind, fillerOf, entryOfKind, entryOf}
+use Rattle.table.specs.LayoutLaws.{within-some}
+use Rattle.order.specs.BitLaws.{power-fits, bit-power}
 use Rattle.node.specs.Node.{Masks, isAmong}
-use Rattle.node.specs.MaskLaws.{or-none, bit-one, shifted}
 
 abbrev pub isBare : Kind → Bool
 isBare Top = true
@@ -33,20 +33,12 @@ isBare (Restriction k) = false
 isBare (Variable k) = false
 isBare Other = true
 
-within-some : {A : Type 0} (k n : ℕ) (a b : A) → within k n a ≡ some b → (k < n) × (a ≡ b)
-unfolding within
-within-some k n a b = go (ltb k n) refl
-  where
-    go : (p : Bool) → ltb k n ≡ p → cond p (some a) none ≡ some b → (k < n) × (a ≡ b)
-    go true e q = (ltb-true k n e, (cc))
-    go false e q = absurd (let z : _≡_ {A = ℕ} 0 1 = cc in omega arith)
-
 pub eqb-comm : (a b : ℕ) → eqb a b ≡ eqb b a
 eqb-comm a b =
     same-test (eqb a b) (eqb b a) (λ t. subst T (sym (eq-eqb b a (sym (eqb→eq a b t)))) tt) (λ t. subst T (sym (eq-eqb a b (sym (eqb→eq b a t)))) tt)
 
 pub mask-one : (k : ℕ) → k < 32 → Masks (λ y. eqb k y) (1 * 2 ^ k % 4294967296)
-mask-one k h y = ap (bit y) (shifted k h) ∙ bit-one y k ∙ eqb-comm y k
+mask-one k h y = ap (bit y) (power-fits k h) ∙ bit-power y k ∙ eqb-comm y k
 
 module _ (c v b : ℕ) (f : Filler) (is : fillerOf c v b ≡ some f) where
   filler-kind : (k : Kind) → kindOf b ≡ k → fillerOfKind c v k ≡ some f
@@ -69,12 +61,12 @@ module _ (c v b : ℕ) (f : Filler) (is : fillerOf c v b ≡ some f) where
       go (Constant k) u q = rw (sym (within-some k c (constantF k) f q .1)) refl
       go (Restriction k) u q = absurd u
       go (Variable k) u q = absurd u
-      go Other u q = absurd (let z : _≡_ {A = ℕ} 0 1 = cc in omega arith)
+      go Other u q = absurd (Option·none-ne-some f q)
 
   -- a restriction is no filler
   pub filler-never : (k : ℕ) → kindOf b ≡ Restriction k → Masks (λ y. isVariable y f) 0
   unfolding fillerOfKind
-  filler-never k e = let q : _≡_ {A = Option Filler} none (some f) = filler-kind (Restriction k) e in absurd (let z : _≡_ {A = ℕ} 0 1 = cc in omega arith)
+  filler-never k e = absurd (Option·none-ne-some f (filler-kind (Restriction k) e))
 
   pub filler-variable : (k i : ℕ) → kindOf b ≡ Variable k → i ≡ k → i < 32 → Masks (λ y. isVariable y f) (1 * 2 ^ i % 4294967296)
   filler-variable k i e at h y = mask-one i h y ∙ ap (λ (j : ℕ). eqb j y) at ∙ ap (isVariable y) (filler-named k e .1)
@@ -82,7 +74,7 @@ module _ (c v b : ℕ) (f : Filler) (is : fillerOf c v b ≡ some f) where
 -- what stands alone in a list
 alone : (x y : ℕ) → isAmong (x ∷ []) y ≡ eqb x y
 unfolding isAmong anyOf
-alone x y = or-none (eqb x y)
+alone x y = or-false (eqb x y)
 
 among-filler : (f : Filler) (y : ℕ) → isAmong (fillerVariables f) y ≡ isVariable y f
 unfolding isAmong anyOf
@@ -115,11 +107,11 @@ module _ (c e v b : ℕ) (x : Entry) (is : entryOf c e v b ≡ some x) where
     entry-bare k q bare y = bit-none y ∙ sym (go k bare (entry-kind k q))
       where
         go : (k : Kind) → T (isBare k) → entryOfKind c e v k ≡ some x → isAmong (entryVariables rows x) y ≡ false
-        go Top u r = absurd (let z : _≡_ {A = ℕ} 0 1 = cc in omega arith)
+        go Top u r = absurd (Option·none-ne-some x r)
         go (Constant k) u r = rw (sym (within-some k c (constant k) x r .1)) refl
         go (Restriction k) u r = absurd u
         go (Variable k) u r = absurd u
-        go Other u r = absurd (let z : _≡_ {A = ℕ} 0 1 = cc in omega arith)
+        go Other u r = absurd (Option·none-ne-some x r)
 
     pub entry-variable : (k i : ℕ) → kindOf b ≡ Variable k → i ≡ k → i < 32 → Masks (isAmong (entryVariables rows x)) (1 * 2 ^ i % 4294967296)
     entry-variable k i q at h y =

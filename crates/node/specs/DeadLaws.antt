@@ -1,5 +1,6 @@
 -- Laws of a dead node: its lines one by one.
 --
+--   any-below        == a test over the lines asks each by its number
 --   fails-none, fails-more, fails-found, fails-whole == the lines one by one
 --   dead-fails       == an acyclic node is dead exactly if one of them fails
 --   same-holds       == a line under two assignments that give the same sets
@@ -17,7 +18,7 @@ use lib.ListN.{length, getD}
 use lib.Bits.{bitAnd}
 use borrow.Author.Tests.{eq-eqb, ne-eqb}
 use Rattle.el.specs.Test.{anyBelow, anyOf}
-use Rattle.el.specs.TestLaws.{same-test, anyBelow-hit, anyBelow-found, anyBelow-step, anyBelow-true-at, anyOf-hit, anyOf-found, everyOf-all}
+use Rattle.el.specs.TestLaws.{anyBelow-step, anyBelow-true-at, anyOf-places, everyOf-all}
 use Rattle.el.specs.Description.{sameRole}
 use Rattle.el.specs.Table.{constant, Line, Table}
 use Rattle.el.specs.Meaning.{holds}
@@ -31,7 +32,7 @@ use Rattle.table.specs.Reading.{tableOf}
 use Rattle.order.specs.Given.{LineGiven}
 use Rattle.node.specs.declared.Sets.{Sets}
 use Rattle.node.specs.Node.{nodeOf, Masks, isAmong, LineMasks, LineStarts, failsTo, LineTest, LinesGiven}
-use Rattle.node.specs.SquareLaws.{set-node}
+use Rattle.node.specs.SquareLaws.{same-sets}
 use Rattle.node.specs.LineLaws.{in-lines}
 use Rattle.node.specs.ReadyLaws.{ready-by}
 
@@ -40,10 +41,7 @@ use Rattle.node.specs.ReadyLaws.{ready-by}
 
 pub any-below : (p : Line → Bool) (l : List Line) → anyOf p l ≡ anyBelow (length l) (λ i. p (lineAt l i))
 unfolding lineAt
-any-below p l =
-    same-test (anyOf p l) (anyBelow (length l) (λ i. p (lineAt l i)))
-    (λ u. let f = anyOf-found p l (record { left = []; right = constant 0 }) u in anyBelow-hit (length l) (f .0) (λ i. p (lineAt l i)) (f .1) (f .2))
-    (λ u. let f = anyBelow-found (length l) (λ i. p (lineAt l i)) u in anyOf-hit p l (f .0) (record { left = []; right = constant 0 }) (f .1) (f .2))
+any-below p l = anyOf-places p l (record { left = []; right = constant 0 })
 
 module _ (t : Table) (s : Node) where
   pub fails-none : failsTo t s 0 ≡ false
@@ -93,10 +91,6 @@ module _ (t : Table) (s : Node) (l : Line) (own k : ℕ) (is : Masks (isAmong (l
 -- The test of a line
 
 module _ (s : List ℕ) (c e v n at : ℕ) (sets : Sets) (own k : ℕ) (test : LineTest s c e v n at sets own k) where
-  same-sets : (x : ℕ) → setOf (nodeOf sets) x ≡ setOf (sets .set) x
-  unfolding setOf
-  same-sets x = set-node sets (test .clean) x
-
   pub test-given : length (sets .set) ≡ 12 → LineGiven s (sets .set) c e v n at
   test-given room = record {
     readable = test .readable;
@@ -104,7 +98,7 @@ module _ (s : List ℕ) (c e v n at : ℕ) (sets : Sets) (own k : ℕ) (test : L
     restrictions = test .restrictions;
     variables = test .variables;
     sets = room;
-    acyclic = subst T (acyclic-same (tableOf s) (nodeOf sets) (sets .set) same-sets) (test .straight);
+    acyclic = subst T (acyclic-same (tableOf s) (nodeOf sets) (sets .set) (same-sets sets (test .clean))) (test .straight);
     line = test .line;
     begins = test .begins;
   }
@@ -115,7 +109,7 @@ module _ (s : List ℕ) (c e v n at : ℕ) (sets : Sets) (own k : ℕ) (test : L
   pub test-ready : (b : Bool) → bitAnd own k ≡ own → b ≡ holds sameRole (tableOf s .rows) (induced (tableOf s) (sets .set)) (lineAt (tableOf s .lines) n)
       → not b ≡ fails sameRole (tableOf s) (nodeOf sets) (lineAt (tableOf s .lines) n)
   test-ready b e is =
-      ap not (is ∙ sym (same-holds (tableOf s) (nodeOf sets) (sets .set) same-sets (lineAt (tableOf s .lines) n)))
+      ap not (is ∙ sym (same-holds (tableOf s) (nodeOf sets) (sets .set) (same-sets sets (test .clean)) (lineAt (tableOf s .lines) n)))
       ∙ sym (ready-fails (tableOf s) (nodeOf sets) (lineAt (tableOf s .lines) n) own k (test .owns) (test .settled) e)
 
 pub line-test : (s : List ℕ) (c e v m : ℕ) (sets : Sets) (mask start : List ℕ) (k n : ℕ) → LinesGiven s c e v m sets mask start k → n < m

@@ -6,17 +6,15 @@
 --   lines-none, lines-more, lines-whole == the masks of the lines, one by one
 --   starts-none, starts-more, starts-whole == where the lines begin, one by one
 --   prepared            == all of them are prepared
---   start-first, start-next == where the first line begins, and the next one
 --   in-lines            == a line's number is below the count of lines
 --   line-start          == a line begins inside the table
-use mathlib.Core.Path.{_≡_, sym, ap, subst, _∙_}
+use mathlib.Core.Path.{_≡_, sym, subst}
 use mathlib.Core.List.{List}
 use mathlib.Core.Option.{some}
-use Prim.Native.Nat.{ℕ, _+_, _*_, _≤_, _<_}
+use Prim.Native.Nat.{ℕ, _+_, _≤_, _<_}
 use native.Mathlib.Omega.{arith}
 use native.Mathlib.Nat.{not-suc-le-zero}
 use native.Mathlib.Decide.{ℕ-discrete}
-use native.Mathlib.Numerals.{add-one}
 use lib.ListN.{length, getD, set}
 use lib.Seq.{getD-set-same, getD-set-other}
 use Rattle.el.specs.Table.{constant, Row, Table, rowAt}
@@ -100,16 +98,6 @@ module _ (s start : List ℕ) where
   pub starts-more : (n at : ℕ) → n < length start → LineStarts s n start → at ≡ lineStart s n → LineStarts s (n + 1) (set start n at)
   unfolding LineStarts
   starts-more n at h f g = one-more (λ i a. a ≡ lineStart s i) start n at h f g
-
--- where the next line begins
-pub start-first : (s : List ℕ) (e : ℕ) → e ≡ byteAt s 8 → 10 + 2 * e ≡ lineStart s 0
-unfolding lineStart
-start-first s e q = ap (λ (k : ℕ). 10 + 2 * k) q
-
-pub start-next : (s : List ℕ) (n at p : ℕ) → at ≡ lineStart s n → p ≡ byteAt s at → at + p + 2 ≡ lineStart s (n + 1)
-unfolding lineStart
-start-next s n at p e q =
-    ap (λ (k : ℕ). at + k + 2) q ∙ ap (λ (k : ℕ). k + byteAt s k + 2) e ∙ ap (lineStart s) (sym (add-one n))
 
 pub prepared : (s fill mask start : List ℕ) (e m : ℕ) → e ≡ byteAt s 8 → m ≡ byteAt s 9 → FillMasks (tableOf s .rows) e fill → LineMasks (tableOf s) m mask
     → LineStarts s m start → length fill ≡ 24 → length mask ≡ 64 → length start ≡ 64 → Prepares s fill mask start

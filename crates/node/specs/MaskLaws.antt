@@ -1,83 +1,31 @@
 -- Laws of masks: numbers whose bits say which variables are meant.
 --
---   or-none, and-none, and-all == what no more adds to and what nothing passes
---   bit-one         == the bits of `1 << k`
---   shifted         == `1 << k` as the machine shifts it
---   has-bit             == a number that is not 0 has a bit
 --   no-bits         == a number with no bits is 0
+--   has-bit         == a number that is not 0 has a bit
 --   same-bits       == numbers with the same bits are equal
---   high-none       == a mask has no bit from k on where nothing is left after a shift by k
---   none-high       == and back
---   bit-is, bit-is-not == a bit as the machine tests it
+--   none-high       == nothing is left after a shift by k where a mask has no bit from k on
 --   masks-none      == the mask 0 has no bits
 --   masks-or        == a mask joined to another
---   masks-same      == the same mask under a test that agrees
-use mathlib.Core.Path.{_≡_, refl, sym, ap, ap₂, _∙_}
-use mathlib.Core.Bool.{Bool, true, false, _&&_, _||_}
-use Prim.Native.Nat.{ℕ, zero, suc, _+_, _-_, _*_, _/_, _%_, _^_, _≤_, _<_}
+use mathlib.Core.Path.{_≡_, refl, sym, ap₂, _∙_}
+use mathlib.Core.Bool.{Bool, true, false, _||_}
+use Prim.Native.Nat.{ℕ, zero, suc, _+_, _/_, _%_, _^_, _≤_, _<_}
 use native.Mathlib.Omega.{arith}
-use native.Mathlib.Nat.{div-self, div-eq-of-lt, mul-div-cancel-left, one-mul, pow-suc, div-one, div-div-eq-div-mul, pow-succ', mul-mod-left}
-use native.Mathlib.Decide.{ℕ-discrete, decLt}
-use borrow.Author.Tests.{eq-eqb, ne-eqb, eqb-false}
+use native.Mathlib.Decide.{ℕ-discrete}
+use borrow.Author.Tests.{eq-eqb, eqb-false}
 use lib.Dec.{eqb}
 use lib.Arith.{bin-ind}
 use lib.Bits.{bitOr}
-use lib.Pow.{pow-pos, pow-lt, pow-add, shl-exact, shr-shr}
 use Rattle.el.specs.Test.{bit}
-use Rattle.el.specs.TestLaws.{bit-none}
-use Rattle.order.specs.BitLaws.{bit-or}
+use Rattle.el.specs.TestLaws.{bit-none, bit-first, bit-next}
+use Rattle.order.specs.BitLaws.{bit-more, bit-or}
 use Rattle.node.specs.Node.{Masks}
-
-pub or-none : (p : Bool) → p || false ≡ p
-or-none true = refl
-or-none false = refl
-
-pub and-none : (p : Bool) → p && false ≡ false
-and-none true = refl
-and-none false = refl
-
-pub and-all : (p : Bool) → p && true ≡ p
-and-all true = refl
-and-all false = refl
-
-pub shifted : (k : ℕ) → k < 32 → 1 * 2 ^ k % 4294967296 ≡ 2 ^ k
-shifted k h = shl-exact 1 k 32 (omega arith) (omega arith) ∙ one-mul (2 ^ k)
-
-power-even : (i j : ℕ) → 2 ^ (i + suc j) / 2 ^ i % 2 ≡ 0
-power-even i j =
-    ap (λ (n : ℕ). n / 2 ^ i % 2) (pow-add 2 i (suc j)) ∙ ap (λ (n : ℕ). n % 2) (mul-div-cancel-left (2 ^ suc j) (pow-pos i))
-    ∙ ap (λ (n : ℕ). n % 2) (pow-suc 2 j) ∙ mul-mod-left (2 ^ j) 2
-
-pub bit-one : (i k : ℕ) → bit i (2 ^ k) ≡ eqb i k
-unfolding bit
-bit-one i k = go (ℕ-discrete i k) (decLt i k)
-  where
-    go : Dec (i ≡ k) → Dec (i < k) → eqb (2 ^ k / 2 ^ i % 2) 1 ≡ eqb i k
-    go (yes e) o = rw e (ap (λ (n : ℕ). eqb (n % 2) 1) (div-self (pow-pos k)) ∙ sym (eq-eqb k k refl))
-    go (no e) (yes h) =
-        ap (λ (n : ℕ). eqb (2 ^ n / 2 ^ i % 2) 1) (let z : k ≡ i + suc (k - i - 1) = omega arith in z)
-        ∙ ap (λ (n : ℕ). eqb n 1) (power-even i (k - i - 1)) ∙ sym (ne-eqb i k e)
-    go (no e) (no h) =
-        ap (λ (n : ℕ). eqb (n % 2) 1) (div-eq-of-lt (pow-lt {i = k} {j = i} (omega arith))) ∙ sym (ne-eqb i k e)
-
-pub bit-more : (k i n : ℕ) → bit i (n / 2 ^ k) ≡ bit (k + i) n
-unfolding bit
-bit-more k i n = ap (λ (m : ℕ). eqb (m % 2) 1) (shr-shr n k i)
-
-bit-half : (i n : ℕ) → bit (suc i) n ≡ bit i (n / 2)
-unfolding bit
-bit-half i n = ap (λ (m : ℕ). eqb (n / m % 2) 1) (pow-succ' 2 i) ∙ ap (λ (m : ℕ). eqb (m % 2) 1) (sym (div-div-eq-div-mul n 2 (2 ^ i)))
-
-bit-odd : (n : ℕ) → bit 0 n ≡ eqb (n % 2) 1
-unfolding bit
-bit-odd n = ap (λ (m : ℕ). eqb (m % 2) 1) (div-one n)
 
 pub no-bits : (n : ℕ) → ((y : ℕ) → bit y n ≡ false) → n ≡ 0
 no-bits =
     bin-ind (λ (n : ℕ). ((y : ℕ) → bit y n ≡ false) → n ≡ 0) (λ f. refl)
     (λ n ih f.
-    let h : n / 2 ≡ 0 = ih (λ y. sym (bit-half y n) ∙ f (suc y)) in
-    let o : n % 2 ≡ 1 → ⊥ = eqb-false (n % 2) 1 (sym (bit-odd n) ∙ f 0) in
+    let h : n / 2 ≡ 0 = ih (λ y. sym (bit-next y n) ∙ f (suc y)) in
+    let o : n % 2 ≡ 1 → ⊥ = eqb-false (n % 2) 1 (sym (bit-first n) ∙ f 0) in
     let l : n % 2 < 2 = omega arith in
     let z : n % 2 ≡ 0 = even (n % 2) l o in
     omega arith)
@@ -92,8 +40,8 @@ has-bit =
     (λ n ih f. go n ih f (ℕ-discrete (n % 2) 1))
   where
     go : (n : ℕ) → ((n / 2 ≡ 0 → ⊥) → (i : ℕ) × (bit i (n / 2) ≡ true)) → (n ≡ 0 → ⊥) → Dec (n % 2 ≡ 1) → (i : ℕ) × (bit i n ≡ true)
-    go n ih f (yes e) = (0, bit-odd n ∙ eq-eqb (n % 2) 1 e)
-    go n ih f (no e) = let r = ih (λ z. f (let l : n % 2 < 2 = omega arith in omega arith)) in (suc (r .0), bit-half (r .0) n ∙ r .1)
+    go n ih f (yes e) = (0, bit-first n ∙ eq-eqb (n % 2) 1 e)
+    go n ih f (no e) = let r = ih (λ z. f (let l : n % 2 < 2 = omega arith in omega arith)) in (suc (r .0), bit-next (r .0) n ∙ r .1)
 
 digit-same : (a b : ℕ) → a < 2 → b < 2 → eqb a 1 ≡ eqb b 1 → a ≡ b
 digit-same zero zero h k e = refl
@@ -108,31 +56,15 @@ pub same-bits : (a b : ℕ) → ((y : ℕ) → bit y a ≡ bit y b) → a ≡ b
 same-bits =
     bin-ind (λ (a : ℕ). (b : ℕ) → ((y : ℕ) → bit y a ≡ bit y b) → a ≡ b) (λ b f. sym (no-bits b (λ y. sym (f y) ∙ bit-none y)))
     (λ a ih b f.
-    let h : a / 2 ≡ b / 2 = ih (b / 2) (λ y. sym (bit-half y a) ∙ f (suc y) ∙ bit-half y b) in
-    let l : a % 2 ≡ b % 2 = digit-same (a % 2) (b % 2) (omega arith) (omega arith) (sym (bit-odd a) ∙ f 0 ∙ bit-odd b) in
+    let h : a / 2 ≡ b / 2 = ih (b / 2) (λ y. sym (bit-next y a) ∙ f (suc y) ∙ bit-next y b) in
+    let l : a % 2 ≡ b % 2 = digit-same (a % 2) (b % 2) (omega arith) (omega arith) (sym (bit-first a) ∙ f 0 ∙ bit-first b) in
     omega arith)
-
-pub high-none : (m k y : ℕ) → m / 2 ^ k ≡ 0 → k ≤ y → bit y m ≡ false
-high-none m k y e h =
-    ap (λ (i : ℕ). bit i m) (let z : y ≡ k + (y - k) = omega arith in z) ∙ sym (bit-more k (y - k) m)
-    ∙ ap (bit (y - k)) e ∙ bit-none (y - k)
 
 pub none-high : (m k : ℕ) → ((y : ℕ) → k ≤ y → bit y m ≡ false) → m / 2 ^ k ≡ 0
 none-high m k f = no-bits (m / 2 ^ k) (λ y. bit-more k y m ∙ f (k + y) (omega arith))
-
-pub bit-is : (i s : ℕ) → s / 2 ^ i % 2 ≡ 1 → bit i s ≡ true
-unfolding bit
-bit-is i s e = eq-eqb (s / 2 ^ i % 2) 1 e
-
-pub bit-is-not : (i s : ℕ) → (s / 2 ^ i % 2 ≡ 1 → ⊥) → bit i s ≡ false
-unfolding bit
-bit-is-not i s e = ne-eqb (s / 2 ^ i % 2) 1 e
 
 pub masks-none : Masks (λ y. false) 0
 masks-none y = bit-none y
 
 pub masks-or : (p q : ℕ → Bool) (a b : ℕ) → Masks p a → Masks q b → Masks (λ y. p y || q y) (bitOr a b)
 masks-or p q a b f g y = bit-or y a b ∙ ap₂ _||_ (f y) (g y)
-
-pub masks-same : (p q : ℕ → Bool) (a : ℕ) → ((y : ℕ) → p y ≡ q y) → Masks p a → Masks q a
-masks-same p q a e f y = f y ∙ e y

@@ -24,13 +24,12 @@
 --   settledBy rows n x y == y is below x, and its mask has no bit from n on
 --   leadsBy rows z x y == y is below x and leads to z
 --   failsTo t s n      == one of the first n lines fails at the node s
---   LiveAbove t s      == the node above s is live
 --   NodeGiven s c e v m sets == s is a readable table with these counts, and the sets are a node of it
 --   LineTest s c e v n at sets own k == so, with line n that begins at the byte `at` and the masks of its variables and of the settled ones
 --   LinesGiven s c e v m sets mask start k == so, the node is acyclic, the masks and starts are those of the lines, k is the mask of the settled variables
 use mathlib.Core.Path.{_≡_}
-use mathlib.Core.Bool.{Bool, false, _&&_, not}
-use mathlib.Core.List.{List, [], _∷_, _++_}
+use mathlib.Core.Bool.{Bool, _&&_, not}
+use mathlib.Core.List.{List}
 use mathlib.Core.Option.{Option, some}
 use Prim.Native.Nat.{ℕ, _+_, _/_, _^_, _≤_, _<_}
 use lib.Dec.{T, eqb, ltb}
@@ -39,7 +38,7 @@ use Rattle.el.specs.Test.{anyBelow, allBelow, anyOf, bit}
 use Rattle.el.specs.Description.{sameRole}
 use Rattle.el.specs.Table.{Entry, Row, Line, Table, rowAt}
 use Rattle.el.specs.Assignment.{isVariable, path, reaches, acyclic}
-use Rattle.el.specs.Walk.{Node, entriesVariables, lineVariables, settled, fails, dead}
+use Rattle.el.specs.Walk.{Node, entriesVariables, lineVariables, settled, fails}
 use Rattle.table.specs.Code.{entryOf}
 use Rattle.table.specs.Reading.{byteAt, reading, isReadable, tableOf, maxAtoms, maxLines}
 use Rattle.table.specs.Layout.{lineAt, lineStart}
@@ -125,9 +124,6 @@ leadsBy rows z x y = ltb y x && bit z (rowOf rows y)
 
 unfoldable pub failsTo : Table → Node → ℕ → Bool
 failsTo t s n = anyBelow n (λ i. fails sameRole t s (lineAt (t .lines) i))
-
-unfoldable pub LiveAbove : Table → Node → Type 0
-LiveAbove t s = (p : Node) (x : ℕ) → s ≡ p ++ (x ∷ []) → dead sameRole t p ≡ false
 
 pub record NodeGiven (s : List ℕ) (c e v m : ℕ) (sets : Sets) : Type 0 where
   pub readable : T (isReadable (reading s))

@@ -1,6 +1,7 @@
 -- The test of a node, put together.
 --
---   square-needs     == what the square of variables is made from
+--   node-layout, node-few == the table of a node, and how many variables are chosen at most
+--   square-needs, node-fills == what the square of variables is made from
 --   node-shows       == the square shows what the variables of the node reach
 --   node-cyclic      == where it has a cycle, the node is dead
 --   node-lines       == where it has none, the lines are to be tested
@@ -20,7 +21,7 @@ use Rattle.table.specs.Reading.{byteAt, tableOf}
 use Rattle.table.specs.Layout.{Layout}
 use Rattle.table.specs.LayoutLaws.{layout}
 use Rattle.node.specs.declared.Sets.{Sets}
-use Rattle.node.specs.Node.{nodeOf, Clean, Masks, FillMasks, LineMasks, LineStarts, Prepares, Shows, Squares, noCycle, settledBy, failsTo, NodeGiven, LinesGiven}
+use Rattle.node.specs.Node.{nodeOf, Clean, Masks, FillMasks, LineMasks, LineStarts, Fills, Prepares, Shows, Squares, noCycle, settledBy, failsTo, NodeGiven, LinesGiven}
 use Rattle.node.specs.SquareLaws.{length-node, acyclic-shown}
 use Rattle.node.specs.ReadyLaws.{settled-says}
 use Rattle.node.specs.DeadLaws.{dead-fails}
@@ -43,6 +44,13 @@ module _ (s : List ℕ) (c e v m : ℕ) (sets : Sets) (given : NodeGiven s c e v
       let q : e ≡ byteAt s 8 = given .restrictions in
       (omega arith, omega arith, node-few, given .clean)
 
+  pub node-fills : (fill : List ℕ) → FillMasks (tableOf s .rows) (byteAt s 8) fill → Fills (tableOf s) c e fill
+  node-fills fill masks = record {
+    constants = given .constants ∙ sym (node-layout .constants);
+    restrictions = given .restrictions ∙ sym (node-layout .rows);
+    masks = subst (λ (k : ℕ). FillMasks (tableOf s .rows) k fill) (sym (given .restrictions)) masks;
+  }
+
   module _ (fill mask start rows : List ℕ) (ready : Prepares s fill mask start) (square : Squares fill c e sets rows) (room : length (sets .set) ≡ 12) where
     count : length (nodeOf sets) ≡ sets .chosen
     count = length-node sets (let h : sets .chosen ≤ 12 = node-few in omega arith)
@@ -58,11 +66,7 @@ module _ (s : List ℕ) (c e v m : ℕ) (sets : Sets) (given : NodeGiven s c e v
     pub node-shows : Shows (tableOf s) (nodeOf sets) rows
     unfolding Squares
     node-shows =
-        square (tableOf s) (record {
-          constants = given .constants ∙ sym (node-layout .constants);
-          restrictions = given .restrictions ∙ sym (node-layout .rows);
-          masks = subst (λ (k : ℕ). FillMasks (tableOf s .rows) k fill) (sym (given .restrictions)) (ready .fills);
-        }) (let n : length (nodeOf sets) ≡ sets .chosen = count in let f : length (nodeOf sets) ≤ tableOf s .variables = few in omega arith)
+        square (tableOf s) (node-fills fill (ready .fills)) (let n : length (nodeOf sets) ≡ sets .chosen = count in let f : length (nodeOf sets) ≤ tableOf s .variables = few in omega arith)
 
     straight : noCycle rows (sets .chosen) ≡ acyclic (tableOf s) (nodeOf sets)
     straight = ap (noCycle rows) (sym count) ∙ acyclic-shown (tableOf s) (nodeOf sets) few rows node-shows

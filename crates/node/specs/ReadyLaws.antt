@@ -9,9 +9,9 @@
 --   leads-start, leads-more, leads-skip, leads-whole == the variables that lead to z, one by one
 --   leads-says         == they are those that reach z
 use mathlib.Core.Path.{_≡_, refl, sym, ap, ap₂, subst, _∙_}
-use mathlib.Core.Bool.{Bool, true, false, _&&_, _||_}
+use mathlib.Core.Bool.{Bool, true, false, _&&_, _||_, and-true, and-false, or-false}
 use mathlib.Core.Logic.{_⊎_, inl, inr}
-use mathlib.Core.List.{List, [], _∷_, _++_, append-assoc}
+use mathlib.Core.List.{List, [], _∷_, _++_, append-assoc, append-nil}
 use Prim.Native.Nat.{ℕ, _+_, _*_, _/_, _%_, _^_, _≤_, _<_}
 use native.Mathlib.Omega.{arith}
 use native.Mathlib.Numerals.{add-one}
@@ -28,17 +28,13 @@ use Rattle.el.specs.Assignment.{reaches}
 use Rattle.el.specs.Walk.{Node, entryVariables, entriesVariables, lineVariables, settled}
 use Rattle.el.specs.NodeLaws.{settled-chosen, settled-reached, settled-make}
 use Rattle.node.specs.Node.{Masks, isAmong, leftTo, rowOf, Shows, settledBy, leadsBy}
-use Rattle.order.specs.BitLaws.{bit-and}
-use Rattle.node.specs.MaskLaws.{or-none, and-none, and-all, masks-none, masks-or, high-none, none-high, same-bits}
+use Rattle.order.specs.BitLaws.{high-none, bit-and}
+use Rattle.node.specs.MaskLaws.{masks-none, masks-or, none-high, same-bits}
 use Rattle.node.specs.CodeLaws.{mask-one}
 use Rattle.node.specs.SquareLaws.{reaches-unchosen}
 
 ----------------------------------------------------------------------------------------------------
 -- The variables of a line, entry by entry
-
-append-nil : (l : List ℕ) → l ++ [] ≡ l
-append-nil [] = refl
-append-nil (x ∷ l) = ap (λ (r : List ℕ). x ∷ r) (append-nil l)
 
 module _ (rows : List Row) where
   entries-append : (es fs : List Entry) → entriesVariables rows (es ++ fs) ≡ entriesVariables rows es ++ entriesVariables rows fs
@@ -128,9 +124,9 @@ below-next q x y = go (decLt y x) (ℕ-discrete x y)
   where
     go : Dec (y < x) → Dec (x ≡ y) → ltb y (x + 1) && q y ≡ (ltb y x && q y) || (q x && eqb x y)
     go (yes h) d =
-        rw (lt-ltb y (x + 1) (omega arith), lt-ltb y x h, ne-eqb x y (λ e. omega arith)) (sym (ap (λ (p : Bool). q y || p) (and-none (q x)) ∙ or-none (q y)))
-    go (no h) (yes e) = rw (lt-ltb y (x + 1) (omega arith), le-ltb y x (omega arith), eq-eqb x y e) (ap q (sym e) ∙ sym (and-all (q x)))
-    go (no h) (no e) = rw (le-ltb y (x + 1) (omega arith), le-ltb y x (omega arith), ne-eqb x y e) (sym (and-none (q x)))
+        rw (lt-ltb y (x + 1) (omega arith), lt-ltb y x h, ne-eqb x y (λ e. omega arith)) (sym (ap (λ (p : Bool). q y || p) (and-false (q x)) ∙ or-false (q y)))
+    go (no h) (yes e) = rw (lt-ltb y (x + 1) (omega arith), le-ltb y x (omega arith), eq-eqb x y e) (ap q (sym e) ∙ sym (and-true (q x)))
+    go (no h) (no e) = rw (le-ltb y (x + 1) (omega arith), le-ltb y x (omega arith), ne-eqb x y e) (sym (and-false (q x)))
 
 module _ (q : ℕ → Bool) (x m : ℕ) (f : Masks (λ y. ltb y x && q y) m) where
   pick-more : x < 32 → q x ≡ true → Masks (λ y. ltb y (x + 1) && q y) (bitOr m (1 * 2 ^ x % 4294967296))
@@ -139,7 +135,7 @@ module _ (q : ℕ → Bool) (x m : ℕ) (f : Masks (λ y. ltb y x && q y) m) whe
       ∙ sym (below-next q x y ∙ ap (λ (p : Bool). (ltb y x && q y) || (p && eqb x y)) e)
 
   pick-skip : q x ≡ false → Masks (λ y. ltb y (x + 1) && q y) m
-  pick-skip e y = f y ∙ sym (below-next q x y ∙ ap (λ (p : Bool). (ltb y x && q y) || (p && eqb x y)) e ∙ or-none (ltb y x && q y))
+  pick-skip e y = f y ∙ sym (below-next q x y ∙ ap (λ (p : Bool). (ltb y x && q y) || (p && eqb x y)) e ∙ or-false (ltb y x && q y))
 
 pick-start : (q : ℕ → Bool) → Masks (λ y. ltb y 0 && q y) 0
 pick-start q y = bit-none y ∙ sym (ap (λ (p : Bool). p && q y) (le-ltb y 0 (omega arith)))

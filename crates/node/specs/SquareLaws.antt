@@ -2,20 +2,24 @@
 --
 --   depends-start, depends-more, depends-skip == the restrictions one by one
 --   depends-whole      == all of them
+--   depends-filled     == what the masks of the restrictions say of a table
+--   DirectTo d x rows  == the rows below x show where one step of d leads, the others are empty
 --   direct-start, direct-more, direct-whole, direct-node == the rows of direct dependences one by one
 --   Half d j n x rows  == the rows below x have j as an inner variable, the others not yet
 --   half-start, half-more, half-skip, half-whole == the rows one by one
 --   Closing rows j n x after, closing-.. == the same for any dependences, with the rows that stay
 --   closes-start, closes-more, closes-whole == the inner variables one by one
 --   closes-nowhere     == an inner variable that leads nowhere changes nothing
---   set-node, length-node == the sets of the code as a node
+--   set-node, same-sets, length-node == the sets of the code as a node
+--   clean-next, clean-up == a variable that is not chosen still has the empty set
+--   direct-paths       == rows of direct dependences show paths without inner variables
 --   paths-whole        == where the variables below n are all that depend on any, n inner variables are enough
 --   square-shows       == the square shows what each variable reaches
 --   reaches-unchosen   == a variable that is not chosen reaches none
 --   no-cycle-start, no-cycle-more, no-cycle-whole, no-cycle-not == the cycle test, variable by variable
 --   acyclic-shown      == the cycle test read off the square
 use mathlib.Core.Path.{_≡_, refl, sym, ap, ap₂, subst, _∙_}
-use mathlib.Core.Bool.{Bool, true, false, _&&_, _||_, not}
+use mathlib.Core.Bool.{Bool, true, false, _&&_, _||_, not, and-false, or-false}
 use mathlib.Core.List.{List}
 use Prim.Native.Nat.{ℕ, zero, suc, _+_, _-_, _≤_, _<_}
 use native.Mathlib.Omega.{arith}
@@ -30,9 +34,10 @@ use Rattle.el.specs.Test.{anyBelow, allBelow, bit}
 use Rattle.el.specs.TestLaws.{bit-none, anyBelow-next, anyBelow-none, anyBelow-same, same-test, allBelow-all, allBelow-at, allBelow-step, allBelow-false-at}
 use Rattle.el.specs.Table.{Table, rowAt}
 use Rattle.el.specs.Assignment.{Assignment, setOf, isVariable, depends, path, reaches, acyclic}
+use Rattle.el.specs.NodeLaws.{depends-unchosen}
 use Rattle.node.specs.Node.{nodeOf, Clean, Masks, dependsBy, dependsFrom, FillMasks, Fills, rowOf, Direct, Paths, Closes, Shows, Squares, noCycle}
 use Rattle.node.specs.declared.Sets.{Sets}
-use Rattle.node.specs.MaskLaws.{or-none, and-none, masks-none, masks-or}
+use Rattle.node.specs.MaskLaws.{masks-none, masks-or}
 
 ----------------------------------------------------------------------------------------------------
 -- The restrictions one by one
@@ -54,7 +59,7 @@ module _ (fill : List ℕ) (c s : ℕ) where
 
     pub depends-skip : bit (c + k) s ≡ false → Masks (dependsBy fill c s (k + 1)) m
     depends-skip b y =
-        is y ∙ sym (next y ∙ ap (λ (p : Bool). dependsBy fill c s k y || (p && bit y (getD fill k 0))) b ∙ or-none (dependsBy fill c s k y))
+        is y ∙ sym (next y ∙ ap (λ (p : Bool). dependsBy fill c s k y || (p && bit y (getD fill k 0))) b ∙ or-false (dependsBy fill c s k y))
 
   pub depends-whole : (e k m : ℕ) → k ≤ e → e ≤ k → Masks (dependsBy fill c s k) m → Masks (dependsBy fill c s e) m
   depends-whole e k m h l f = subst (λ (n : ℕ). Masks (dependsBy fill c s n) m) (let z : k ≡ e = omega arith in z) f
@@ -84,6 +89,21 @@ set-node sets clean x = go (decLt x (sets .chosen))
     go (yes l) = getD-take (sets .chosen) (sets .set) x 0 l
     go (no l) =
         List·getD-eq-default (take (sets .chosen) (sets .set)) 0 (simp length-take (omega arith)) ∙ sym (clean x (omega arith))
+
+pub same-sets : (sets : Sets) → Clean sets → (x : ℕ) → setOf (nodeOf sets) x ≡ setOf (sets .set) x
+unfolding setOf
+same-sets sets clean x = set-node sets clean x
+
+-- the last of the first k sets is replaced, or dropped
+pub clean-next : (a : List ℕ) (k y : ℕ) → 0 < k → ((x : ℕ) → k ≤ x → getD a x 0 ≡ 0) → (x : ℕ) → k ≤ x → getD (set a (k - 1) y) x 0 ≡ 0
+clean-next a k y some f x h = getD-set-other a (k - 1) x y 0 (omega arith) ∙ f x h
+
+pub clean-up : (a : List ℕ) (k : ℕ) → 0 < k → k ≤ length a → ((x : ℕ) → k ≤ x → getD a x 0 ≡ 0) → (x : ℕ) → k - 1 ≤ x → getD (set a (k - 1) 0) x 0 ≡ 0
+clean-up a k some fits f x h = go (ℕ-discrete x (k - 1))
+  where
+    go : Dec (x ≡ k - 1) → getD (set a (k - 1) 0) x 0 ≡ 0
+    go (yes e) = ap (λ (i : ℕ). getD (set a (k - 1) 0) i 0) e ∙ getD-set-same a (k - 1) 0 0 (omega arith)
+    go (no e) = clean-next a k 0 some f x (omega arith)
 
 pub length-node : (sets : Sets) → sets .chosen ≤ length (sets .set) → length (nodeOf sets) ≡ sets .chosen
 unfolding nodeOf
@@ -134,14 +154,9 @@ direct-node fill c e sets x rows clean h f =
 ----------------------------------------------------------------------------------------------------
 -- One more inner variable
 
-or-absorbs : (p q : Bool) → p || (p && q) ≡ p
+or-absorbs : (p q : Bool) → p || (q && p) ≡ p
 or-absorbs true q = refl
-or-absorbs false q = refl
-
-or-absorbs-right : (p q : Bool) → p || (q && p) ≡ p
-or-absorbs-right true q = refl
-or-absorbs-right false true = refl
-or-absorbs-right false false = refl
+or-absorbs false q = and-false q
 
 -- the rows below x have j as an inner variable, the others not yet
 unfoldable pub Half : (ℕ → ℕ → Bool) → ℕ → ℕ → ℕ → List ℕ → Type 0
@@ -157,14 +172,11 @@ module _ (d : ℕ → ℕ → Bool) (j : ℕ) where
   path-nowhere : (x y : ℕ) → path d j j y ≡ false → path d (j + 1) x y ≡ path d j x y
   path-nowhere x y e =
       path-next x y ∙ ap (λ (p : Bool). path d j x y || (path d j x j && p)) e
-      ∙ ap (λ (p : Bool). path d j x y || p) (and-none (path d j x j)) ∙ or-none (path d j x y)
+      ∙ ap (λ (p : Bool). path d j x y || p) (and-false (path d j x j)) ∙ or-false (path d j x y)
 
-  -- paths into j and out of j need not pass j
-  path-into : (x : ℕ) → path d (j + 1) x j ≡ path d j x j
-  path-into x = path-next x j ∙ or-absorbs (path d j x j) (path d j j j)
-
+  -- paths out of j need not pass j
   path-out : (y : ℕ) → path d (j + 1) j y ≡ path d j j y
-  path-out y = path-next j y ∙ or-absorbs-right (path d j j y) (path d j j j)
+  path-out y = path-next j y ∙ or-absorbs (path d j j y) (path d j j j)
 
   module _ (n : ℕ) (rows : List ℕ) where
     pub half-start : Paths d j n rows → Half d j n 0 rows
@@ -210,7 +222,7 @@ module _ (d : ℕ → ℕ → Bool) (j : ℕ) where
           at : (i : ℕ) → i < x + 1 → Dec (i ≡ x) → Masks (path d (j + 1) i) (rowOf rows i)
           at i h (yes e) y =
               ap (λ (k : ℕ). bit y (rowOf rows k)) e ∙ own y
-              ∙ sym (ap (λ (k : ℕ). path d (j + 1) k y) e ∙ path-next x y ∙ ap (λ (p : Bool). path d j x y || (p && path d j j y)) (sym (own j) ∙ b) ∙ or-none (path d j x y))
+              ∙ sym (ap (λ (k : ℕ). path d (j + 1) k y) e ∙ path-next x y ∙ ap (λ (p : Bool). path d j x y || (p && path d j j y)) (sym (own j) ∙ b) ∙ or-false (path d j x y))
           at i h (no e) y = f .0 i (omega arith) y
 
 -- the loop over the rows
@@ -305,13 +317,6 @@ module _ (rows : List ℕ) where
   pub no-cycle-not : (n x : ℕ) → x < n → bit x (rowOf rows x) ≡ true → noCycle rows n ≡ false
   unfolding noCycle
   no-cycle-not n x h b = allBelow-false-at n x (λ i. not (bit i (rowOf rows i))) h (ap not b)
-
--- a variable that is not chosen depends on none
-depends-unchosen : (t : Table) (a : Assignment) (x y : ℕ) → length a ≤ x → depends t a x y ≡ false
-unfolding depends setOf
-depends-unchosen t a x y h =
-    anyBelow-none (length (t .rows)) (λ i. bit (t .constants + i) (getD a x 0) && isVariable y (rowAt (t .rows) i .filler))
-    (λ i l. ap (λ (p : Bool). p && isVariable y (rowAt (t .rows) i .filler)) (ap (bit (t .constants + i)) (List·getD-eq-default a 0 h) ∙ bit-none (t .constants + i)))
 
 pub square-shows : (fill : List ℕ) (c e : ℕ) (sets : Sets) (direct rows : List ℕ) → Clean sets → sets .chosen ≤ length (sets .set)
     → Direct (dependsFrom fill c e (sets .set)) direct → Closes direct 0 (sets .chosen) (sets .chosen) rows → Squares fill c e sets rows

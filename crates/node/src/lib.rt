@@ -74,7 +74,7 @@ fn fill_masks(table: &[u8], e: usize) -> [u32; 24]
 }
 
 // The mask of the variables on which a variable with the set number `set` depends directly.
-pub fn depends_row(fill: &[u32], c: usize, e: usize, set: u32) -> u32
+fn depends_row(fill: &[u32], c: usize, e: usize, set: u32) -> u32
     requires { ⌜ (c + e ≤ 24) × (e ≤ length (now fill)) ⌝ }
     ensures { λ r. ⌜ Masks (dependsBy (now (fill .entry)) c set e) r ⌝ }
 {

@@ -1,11 +1,10 @@
 -- What the line test's code meets, with plain arguments.
 --
---   power-fits                          == 1 << i is 2 ^ i
 --   filler-read, entry-read             == what a declared code says
---   filler-..-fits, entry-..-fits       == the number that a declared code holds is in range
+--   filler-.., entry-.., ..-fits        == the number that a declared code holds is in range
 --   set-.., entry-..                    == the set of a filler's, an entry's code, by its kind
 --   constant-kind, flat-kind            == the flat test, by the kinds of the codes
---   bit-on, bit-off, ..-rest            == what the rest of a set number says of its bits
+--   rows-rest, atoms-rest               == no row, no atom from a number on is in the set
 --   low-bits                            == the rest modulo 2 ^ c says whether one of the first c bits is set
 --   row-.., atom-.., constant-count     == what the bytes of a row say, and how many atoms there are
 --   any-start, any-end, all-end         == a loop over numbers begins, and ends
@@ -15,27 +14,27 @@
 --   constants-missing, constants-there  == a missing constant decides, and none is missing
 --   filler-flat, filler-atoms           == a filler below a filler
 --   few-atoms, given                    == what the two questions are given
---   line-inside, left-.., right-..      == what the bytes of a line say
+--   left-.., right-..                   == what the bytes of a line say
 --   left-start, left-step, left-whole   == the loop that joins the left entries' sets
 --   line-atoms                          == the line holds
 use mathlib.Core.Path.{_≡_, refl, sym, ap, ap₂, subst, _∙_}
-use mathlib.Core.Bool.{Bool, true, false, _&&_, _||_, not}
-use mathlib.Core.List.{List, []}
-use mathlib.Core.Option.{none, some}
+use mathlib.Core.Bool.{Bool, true, false, _&&_, _||_, not, and-comm, and-false, or-true, or-false}
+use mathlib.Core.List.{List}
+use mathlib.Core.Option.{some, Option·none-ne-some}
 use Prim.Native.Nat.{ℕ, zero, suc, _+_, _-_, _*_, _/_, _%_, _^_, _≤_, _<_}
 use native.Mathlib.Omega.{arith}
-use native.Mathlib.Nat.{one-mul, mod-eq-of-lt, zero-div}
 use native.Mathlib.Decide.{decLt}
 use lib.Dec.{T, eqb, ltb}
 use lib.ListN.{length, getD}
 use lib.Bits.{bitOr, bitAnd, bitXor}
-use lib.Pow.{pow-pos, pow-lt, shr-shr, mod-pow-add}
+use lib.Pow.{pow-pos, mod-pow-add}
 use borrow.Author.Tests.{eq-eqb, ne-eqb, lt-ltb, le-ltb}
 use Rattle.el.specs.Description.{sameRole}
 use Rattle.el.specs.OrderLaws.{sameRole-refl}
-use Rattle.el.specs.Test.{anyBelow, allBelow, everyOf, bit}
-use Rattle.el.specs.TestLaws.{is-true, true-is, and-right, everyOf-at, same-test, false-not, anyBelow-hit, anyBelow-found, anyBelow-none, anyBelow-same, anyBelow-false-at, allBelow-every, allBelow-same, allBelow-true-at, allBelow-false-at}
-use Rattle.el.specs.Table.{Filler, topF, constantF, variableF, Entry, constant, restriction, variable, Line, Table, rowAt, atoms, rowDeclared, lineDeclared, declared}
+use Rattle.el.specs.Test.{anyBelow, allBelow, bit}
+use Rattle.el.specs.TestLaws.{is-true, true-is, same-test, false-not, anyBelow-hit, anyBelow-found, anyBelow-none, anyBelow-same, anyBelow-false-at, allBelow-every, allBelow-same, allBelow-true-at, allBelow-false-at}
+use Rattle.el.specs.Table.{Filler, topF, constantF, variableF, Entry, constant, restriction, variable, Line, Table, rowAt, atoms, lineDeclared}
+use Rattle.el.specs.TableLaws.{line-declared}
 use Rattle.el.specs.Meaning.{holds}
 use Rattle.el.specs.Assignment.{Assignment, setOf, acyclic, induced}
 use Rattle.table.specs.declared.Kind.{Kind}
@@ -44,7 +43,7 @@ use Rattle.table.specs.Code.{kindOf, fillerOf, fillerOfKind, entryOf, entryOfKi
 use Rattle.table.specs.Reading.{byteAt, reading, isReadable, tableOf}
 use Rattle.table.specs.Layout.{lineAt, lineStart, Layout}
 use Rattle.table.specs.LayoutLaws.{within-some, layout}
-use Rattle.order.specs.BitLaws.{bit-missing}
+use Rattle.order.specs.BitLaws.{power-fits, high-none, bit-missing}
 use Rattle.order.specs.Rule.{fillerSet, entrySet, unionTo, leftSet, atomRow, isConstant, flatTest, atomTest, setTest, fillerTest, leftTest, lineTest}
 use Rattle.order.specs.RuleLaws.{any-one, left-union, set-itself, line-rule}
 use Rattle.order.specs.Given.{fillerFromKind, fillerFrom, entryFromKind, entryFrom, IsFiller, IsEntry, Given, setBelow, fillerBelow}
@@ -52,27 +51,21 @@ use Rattle.order.specs.Given.{fillerFromKind, fillerFrom, entryFromKind,
 ----------------------------------------------------------------------------------------------------
 -- Codes
 
-pub power-fits : (i : ℕ) → i < 32 → 1 * 2 ^ i % 4294967296 ≡ 2 ^ i
-power-fits i h = ap (λ (k : ℕ). k % 4294967296) (one-mul (2 ^ i)) ∙ mod-eq-of-lt (pow-lt h)
-
-not-none : {A : Type 0} (x : A) → none ≡ some x → ⊥
-not-none x q = let z : _≡_ {A = ℕ} 0 1 = cc in omega arith
-
 kind-filler : (c v : ℕ) (k : Kind) (f : Filler) → fillerOfKind c v k ≡ some f → fillerFromKind k ≡ f
 unfolding fillerOfKind
 kind-filler c v Top f q = cc
 kind-filler c v (Constant k) f q = within-some k c (constantF k) f q .1
-kind-filler c v (Restriction k) f q = absurd (not-none f q)
+kind-filler c v (Restriction k) f q = absurd (Option·none-ne-some f q)
 kind-filler c v (Variable k) f q = within-some k v (variableF k) f q .1
-kind-filler c v Other f q = absurd (not-none f q)
+kind-filler c v Other f q = absurd (Option·none-ne-some f q)
 
 kind-entry : (c e v : ℕ) (k : Kind) (x : Entry) → entryOfKind c e v k ≡ some x → entryFromKind k ≡ x
 unfolding entryOfKind
-kind-entry c e v Top x q = absurd (not-none x q)
+kind-entry c e v Top x q = absurd (Option·none-ne-some x q)
 kind-entry c e v (Constant k) x q = within-some k c (constant k) x q .1
 kind-entry c e v (Restriction k) x q = within-some k e (restriction k) x q .1
 kind-entry c e v (Variable k) x q = within-some k v (variable k) x q .1
-kind-entry c e v Other x q = absurd (not-none x q)
+kind-entry c e v Other x q = absurd (Option·none-ne-some x q)
 
 pub filler-read : (s : List ℕ) (b : ℕ) (f : Filler) → fillerOf (byteAt s 5) (byteAt s 7) b ≡ some f → fillerFrom b ≡ f
 unfolding fillerOf fillerFrom
@@ -164,33 +157,10 @@ flat-kind f g x e = ap (λ y. flatTest (fillerFromKind (kindOf f)) (fillerFromKi
 ----------------------------------------------------------------------------------------------------
 -- Rests of a set number
 
-rest-none : (S j i : ℕ) → S / 2 ^ j ≡ 0 → j ≤ i → bit i S ≡ false
-unfolding bit
-rest-none S j i e h =
-    let q : j + (i - j) ≡ i = omega arith in
-    let z : S / 2 ^ i ≡ 0 = ap (λ (m : ℕ). S / 2 ^ m) (sym q) ∙ sym (shr-shr S j (i - j)) ∙ ap (λ (m : ℕ). m / 2 ^ (i - j)) e ∙ zero-div (2 ^ (i - j)) in
-    ap (λ (m : ℕ). eqb (m % 2) 1) z
-
-pub bit-on : (S j : ℕ) → S / 2 ^ j % 2 ≡ 1 → bit j S ≡ true
-unfolding bit
-bit-on S j e = eq-eqb (S / 2 ^ j % 2) 1 e
-
-pub bit-off : (S j : ℕ) → (S / 2 ^ j % 2 ≡ 1 → ⊥) → bit j S ≡ false
-unfolding bit
-bit-off S j e = ne-eqb (S / 2 ^ j % 2) 1 e
-
-or-no : (x : Bool) → x || false ≡ x
-or-no true = refl
-or-no false = refl
-
-or-yes : (x : Bool) → x || true ≡ true
-or-yes true = refl
-or-yes false = refl
-
 -- a number whose next digit is d, its first ones r
 digit-any : (d p r : ℕ) → d < 2 → 0 < p → not (eqb (d * p + r) 0) ≡ not (eqb r 0) || eqb d 1
-digit-any zero p r h k = ap (λ (n : ℕ). not (eqb n 0)) (let z : zero * p + r ≡ r = omega arith in z) ∙ sym (or-no (not (eqb r 0)))
-digit-any (suc zero) p r h k = ap not (ne-eqb (suc zero * p + r) 0 (λ z. omega arith)) ∙ sym (or-yes (not (eqb r 0)))
+digit-any zero p r h k = ap (λ (n : ℕ). not (eqb n 0)) (let z : zero * p + r ≡ r = omega arith in z) ∙ sym (or-false (not (eqb r 0)))
+digit-any (suc zero) p r h k = ap not (ne-eqb (suc zero * p + r) 0 (λ z. omega arith)) ∙ sym (or-true (not (eqb r 0)))
 digit-any (suc (suc d)) p r h k = absurd (let z : ⊥ = omega arith in z)
 
 pub low-bits : (c S : ℕ) → not (eqb (S % 2 ^ c) 0) ≡ anyBelow c (λ j. bit j S)
@@ -253,16 +223,6 @@ atom-restriction : (under : ℕ → ℕ → Bool) (t : Table) (fb : Filler → F
 unfolding atomTest
 atom-restriction under t fb i j h = rw (le-ltb j (t .constants) h, atomTest)
 
-and-swap : (x y : Bool) → x && y ≡ y && x
-and-swap true true = refl
-and-swap true false = refl
-and-swap false true = refl
-and-swap false false = refl
-
-and-no : (x : Bool) → x && false ≡ false
-and-no true = refl
-and-no false = refl
-
 -- the first c numbers do not pass
 any-from : (c e : ℕ) (p : ℕ → Bool) → ((i : ℕ) → i < c → p i ≡ false) → anyBelow (c + e) p ≡ anyBelow e (λ k. p (c + k))
 any-from c e p low = same-test (anyBelow (c + e) p) (anyBelow e (λ k. p (c + k))) there back
@@ -301,11 +261,11 @@ module _ (s : List ℕ) (a : Assignment) (c d S role g k : ℕ) where
 
   pub row-other : (byteAt s (10 + 2 * k) ≡ role → ⊥) → RowAsk s a c d S role g k ≡ false
   unfolding RowAsk
-  row-other n = rw (ne-eqb (byteAt s (10 + 2 * k)) role n) (and-no (bit (c + k) S))
+  row-other n = rw (ne-eqb (byteAt s (10 + 2 * k)) role n) (and-false (bit (c + k) S))
 
   pub row-false : fillerBelow s a d (byteAt s (11 + 2 * k)) g ≡ false → RowAsk s a c d S role g k ≡ false
   unfolding RowAsk
-  row-false e = rw (e, and-no (eqb (byteAt s (10 + 2 * k)) role)) (and-no (bit (c + k) S))
+  row-false e = rw (e, and-false (eqb (byteAt s (10 + 2 * k)) role)) (and-false (bit (c + k) S))
 
   pub row-true : bit (c + k) S ≡ true → byteAt s (10 + 2 * k) ≡ role → fillerBelow s a d (byteAt s (11 + 2 * k)) g ≡ true → RowAsk s a c d S role g k ≡ true
   unfolding RowAsk
@@ -318,7 +278,7 @@ module _ (s : List ℕ) (a : Assignment) (c d S role g k : ℕ) where
     where
       go : (i : ℕ) → Dec (i < k) → RowAsk s a c d S role g i ≡ false
       go i (yes l) = anyBelow-false-at k i (RowAsk s a c d S role g) before l
-      go i (no l) = rw (rest-none S (c + k) (c + i) z (omega arith))
+      go i (no l) = rw (high-none S (c + k) (c + i) z (omega arith))
 
 module _ (s : List ℕ) (a : Assignment) (c e : ℕ) (g : Given s a c e) (d S j : ℕ) where
   pub set-constant : j < c → bit j S ≡ setBelow s a d S j
@@ -326,7 +286,7 @@ module _ (s : List ℕ) (a : Assignment) (c e : ℕ) (g : Given s a c e) (d S j 
   set-constant h = sym (
       ap (λ (n : ℕ). anyBelow n (λ i. bit i S && atomTest sameRole (tableOf s) (fillerTest sameRole (tableOf s) a d) i j)) (atom-count s a c e g)
       ∙ anyBelow-same (c + e) (λ i. bit i S && atomTest sameRole (tableOf s) (fillerTest sameRole (tableOf s) a d) i j) (λ i. eqb i j && bit i S)
-      (λ i l. ap (λ b. bit i S && b) (atom-constant sameRole (tableOf s) (fillerTest sameRole (tableOf s) a d) i j (subst (λ (n : ℕ). j < n) (sym (constant-count s a c e g)) h)) ∙ and-swap (bit i S) (eqb i j))
+      (λ i l. ap (λ b. bit i S && b) (atom-constant sameRole (tableOf s) (fillerTest sameRole (tableOf s) a d) i j (subst (λ (n : ℕ). j < n) (sym (constant-count s a c e g)) h)) ∙ and-comm (bit i S) (eqb i j))
       ∙ any-one (λ i. eqb i j) (λ i. bit i S) (c + e) j (omega arith) (λ i. refl))
 
   -- below the restriction j: some row of the set has its role, and a filler below its own
@@ -351,7 +311,7 @@ module _ (s : List ℕ) (a : Assignment) (c e : ℕ) (g : Given s a c e) (d S j 
       opened i = ap (λ b. bit i S && b) (atom-restriction sameRole (tableOf s) fb i j in-rows)
 
       low : (i : ℕ) → i < c → ask i ≡ false
-      low i k = opened i ∙ rw (lt-ltb i (tableOf s .constants) (subst (λ (n : ℕ). i < n) (sym (constant-count s a c e g)) k)) (and-no (bit i S))
+      low i k = opened i ∙ rw (lt-ltb i (tableOf s .constants) (subst (λ (n : ℕ). i < n) (sym (constant-count s a c e g)) k)) (and-false (bit i S))
 
       next : (k : ℕ) → 11 + 2 * k ≡ 10 + 2 * k + 1
       next k = omega arith
@@ -382,7 +342,7 @@ module _ (s : List ℕ) (a : Assignment) (d L R j : ℕ) where
 
   pub atom-true : setBelow s a d L j ≡ true → AtomAsk s a d L R j ≡ true
   unfolding AtomAsk
-  atom-true e = rw e (or-yes (not (bit j R)))
+  atom-true e = rw e (or-true (not (bit j R)))
 
   pub atom-false : bit j R ≡ true → setBelow s a d L j ≡ false → AtomAsk s a d L R j ≡ false
   unfolding AtomAsk
@@ -395,7 +355,7 @@ module _ (s : List ℕ) (a : Assignment) (d L R j : ℕ) where
     where
       go : (i : ℕ) → Dec (i < j) → AtomAsk s a d L R i ≡ true
       go i (yes l) = allBelow-true-at j i (AtomAsk s a d L R) before l
-      go i (no l) = rw (rest-none R j i z (omega arith))
+      go i (no l) = rw (high-none R j i z (omega arith))
 
 -- an atom that both sets have is below by itself: the missing ones are asked alone
 asked-alone : (x y z : Bool) → (y ≡ true → z ≡ true) → not x || z ≡ not (x && not y) || z
@@ -428,7 +388,7 @@ constants-missing s a c e q d L R t =
   where
     lacks : (x y : Bool) → x && not y ≡ true → y ≡ false
     lacks x false h = refl
-    lacks x true h = sym h ∙ and-no x
+    lacks x true h = sym h ∙ and-false x
 
 pub constants-there : (s : List ℕ) (a : Assignment) (c d L M : ℕ) → anyBelow c (λ j. bit j M) ≡ false → allBelow c (AtomAsk s a d L M) ≡ true
 constants-there s a c d L M t = allBelow-every c (AtomAsk s a d L M) (λ j h. atom-off s a d L M j (anyBelow-false-at c j (λ i. bit i M) t h))
@@ -473,9 +433,6 @@ given s a c e ok m p q =
 
 -- line n begins at the byte `at`
 module _ (s : List ℕ) (ok : T (isReadable (reading s))) (n at : ℕ) (few : n < byteAt s 9) (begins : at ≡ lineStart s n) where
-  pub line-inside : at + byteAt s at + 2 ≤ length s
-  line-inside = subst (λ (k : ℕ). k + byteAt s k + 2 ≤ length s) (sym begins) (layout s ok .line-in n few)
-
   left-length : length (lineAt (tableOf s .lines) n .left) ≡ byteAt s at
   left-length = layout s ok .line-left n few ∙ ap (byteAt s) (sym begins)
 
@@ -523,16 +480,12 @@ module _ (s : List ℕ) (a : Assignment) (ok : T (isReadable (reading s))) (n at
   left-whole i L h l e =
       e ∙ ap (unionTo (tableOf s) a (lineAt (tableOf s .lines) n .left)) (let q : i ≡ p = omega arith in q ∙ many ∙ sym (left-length s ok n at few begins))
 
-line-declared : (t : Table) → T (declared t) → (n : ℕ) → n < length (t .lines) → T (lineDeclared t (lineAt (t .lines) n))
-unfolding declared lineAt
-line-declared t u n h = everyOf-at (lineDeclared t) (t .lines) n (record { left = []; right = constant 0 }) (and-right (everyOf (rowDeclared t) (t .rows)) (everyOf (lineDeclared t) (t .lines)) u) h
-
 pub line-atoms : (s : List ℕ) (a : Assignment) (c e : ℕ) → Given s a c e → T (acyclic (tableOf s) a) → (v : ℕ) → v ≡ byteAt s 7
     → (n at : ℕ) → n < byteAt s 9 → at ≡ lineStart s n → (p : ℕ) → p ≡ byteAt s at
     → (L : ℕ) → L ≡ leftSet (tableOf s) a (lineAt (tableOf s .lines) n .left) → (R : ℕ) → R ≡ entrySet (tableOf s) a (entryFrom (byteAt s (at + 1 + p)))
     → holds sameRole (tableOf s .rows) (induced (tableOf s) a) (lineAt (tableOf s .lines) n) ≡ allBelow (c + e) (AtomAsk s a v L (bitXor R (bitAnd R L)))
 line-atoms s a c e g calm v many-variables n at few begins p many L union R set =
-    sym (line-rule sameRole (tableOf s) (l .all-declared) a calm (lineAt (tableOf s .lines) n) (line-declared (tableOf s) (l .all-declared) n (subst (λ (k : ℕ). n < k) (sym (l .lines)) few)))
+    sym (line-rule sameRole (tableOf s) (l .all-declared) a calm (lineAt (tableOf s .lines) n) here)
     ∙ opened (lineAt (tableOf s .lines) n)
     ∙ ap₂ (λ (k S : ℕ). allBelow k (λ j. not (bit j S) || leftTest sameRole (tableOf s) a (lineAt (tableOf s .lines) n .left) j)) (atom-count s a c e g) (sym right)
     ∙ allBelow-same (c + e) (λ j. not (bit j R) || leftTest sameRole (tableOf s) a (lineAt (tableOf s .lines) n .left) j) (λ j. not (bit j R) || setBelow s a v L j) (λ j h. ap (λ b. not (bit j R) || b) (left j))
@@ -540,6 +493,9 @@ line-atoms s a c e g calm v many-variables n at few begins p many L union R set 
   where
     l : Layout s (tableOf s)
     l = layout s (g .readable)
+
+    here : T (lineDeclared (tableOf s) (lineAt (tableOf s .lines) n))
+    here = unfold lineAt in line-declared (tableOf s) (l .all-declared) n _ (subst (λ (k : ℕ). n < k) (sym (l .lines)) few)
 
     opened : (x : Line) → lineTest sameRole (tableOf s) a x ≡ allBelow (atoms (tableOf s)) (λ j. not (bit j (entrySet (tableOf s) a (x .right))) || leftTest sameRole (tableOf s) a (x .left) j)
     opened x = unfold lineTest in refl

@@ -1,16 +1,73 @@
--- The bits of numbers joined bit by bit.
+-- The bits of numbers: of a power, of a rest, and of numbers joined bit by bit.
 --
+--   bit-on, bit-off == a bit as the machine tests it
+--   power-fits  == 2 ^ k as the machine shifts it
+--   bit-power   == the number 2 ^ k has bit k alone
+--   bit-more    == the bits of a rest
+--   high-none   == a number has no bit from k on where nothing is left after a shift by k
 --   bit-or      == the bits of `a | b`
 --   bit-and     == the bits of `a & b`
 --   bit-xor     == the bits of `a ^ b`
 --   bit-missing == the bits of `b ^ (b & a)`: what b has and a has not
-use mathlib.Core.Path.{_≡_, refl, ap, _∙_}
+use mathlib.Core.Path.{_≡_, refl, sym, ap, _∙_}
 use mathlib.Core.Bool.{Bool, true, false, _&&_, _||_, not}
-use Prim.Native.Nat.{ℕ, zero, suc, _+_, _*_, _/_, _%_, _^_, _<_, min, max}
+use Prim.Native.Nat.{ℕ, zero, suc, _+_, _-_, _*_, _/_, _%_, _^_, _≤_, _<_, min, max}
 use native.Mathlib.Omega.{arith}
+use native.Mathlib.Nat.{one-mul, pow-suc, div-eq-of-lt, div-self, mul-div-cancel}
+use native.Mathlib.Decide.{ℕ-discrete, decLt}
 use lib.Dec.{eqb}
 use lib.Bits.{bitOr, bitAnd, bitXor, differ, or-shr, or-step, and-shr, and-step, xor-shr, xor-step}
+use lib.Pow.{pow-pos, pow-lt, pow-add, shl-exact, shr-shr}
+use borrow.Author.Tests.{eq-eqb, ne-eqb}
 use Rattle.el.specs.Test.{bit}
+use Rattle.el.specs.TestLaws.{bit-none}
+
+----------------------------------------------------------------------------------------------------
+-- Bits of one number
+
+pub bit-on : (i s : ℕ) → s / 2 ^ i % 2 ≡ 1 → bit i s ≡ true
+unfolding bit
+bit-on i s e = eq-eqb (s / 2 ^ i % 2) 1 e
+
+pub bit-off : (i s : ℕ) → (s / 2 ^ i % 2 ≡ 1 → ⊥) → bit i s ≡ false
+unfolding bit
+bit-off i s e = ne-eqb (s / 2 ^ i % 2) 1 e
+
+pub power-fits : (k : ℕ) → k < 32 → 1 * 2 ^ k % 4294967296 ≡ 2 ^ k
+power-fits k h = shl-exact 1 k 32 (omega arith) (omega arith) ∙ one-mul (2 ^ k)
+
+even : (d : ℕ) → 2 ^ suc d % 2 ≡ 0
+even d = rw (pow-suc 2 d) (omega arith)
+
+power-over : (i d : ℕ) → 2 ^ (d + i) / 2 ^ i ≡ 2 ^ d
+power-over i d = rw (pow-add 2 d i) (mul-div-cancel (2 ^ d) (pow-pos i))
+
+pub bit-power : (i k : ℕ) → bit i (2 ^ k) ≡ eqb i k
+unfolding bit
+bit-power i k = go (ℕ-discrete i k) (decLt i k)
+  where
+    low : (d : ℕ) → suc d + i ≡ k → 2 ^ k / 2 ^ i % 2 ≡ 0
+    low d e = ap (λ (m : ℕ). 2 ^ m / 2 ^ i % 2) (sym e) ∙ ap (λ (m : ℕ). m % 2) (power-over i (suc d)) ∙ even d
+
+    high : k < i → 2 ^ k / 2 ^ i ≡ 0
+    high h = div-eq-of-lt (pow-lt h)
+
+    go : Dec (i ≡ k) → Dec (i < k) → eqb (2 ^ k / 2 ^ i % 2) 1 ≡ eqb i k
+    go (yes e) l = ap (λ (m : ℕ). eqb (2 ^ k / 2 ^ m % 2) 1) e ∙ ap (λ (m : ℕ). eqb (m % 2) 1) (div-self (pow-pos k)) ∙ sym (eq-eqb i k e)
+    go (no n) (yes l) = ap (λ (m : ℕ). eqb m 1) (low (k - suc i) (omega arith)) ∙ sym (ne-eqb i k n)
+    go (no n) (no l) = ap (λ (m : ℕ). eqb (m % 2) 1) (high (omega arith)) ∙ sym (ne-eqb i k n)
+
+pub bit-more : (k i n : ℕ) → bit i (n / 2 ^ k) ≡ bit (k + i) n
+unfolding bit
+bit-more k i n = ap (λ (m : ℕ). eqb (m % 2) 1) (shr-shr n k i)
+
+pub high-none : (n k i : ℕ) → n / 2 ^ k ≡ 0 → k ≤ i → bit i n ≡ false
+high-none n k i e h =
+    ap (λ (j : ℕ). bit j n) (let z : i ≡ k + (i - k) = omega arith in z) ∙ sym (bit-more k (i - k) n)
+    ∙ ap (bit (i - k)) e ∙ bit-none (i - k)
+
+----------------------------------------------------------------------------------------------------
+-- Bit by bit
 
 digit-or : (a b : ℕ) → a < 2 → b < 2 → eqb (max a b) 1 ≡ eqb a 1 || eqb b 1
 digit-or zero zero h k = refl

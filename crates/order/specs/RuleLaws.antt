@@ -1,13 +1,15 @@
 -- The rule answers the order between descriptions.
 --
---   bit-power        == the number 2 ^ k has bit k alone
---   any-one, all-one == a test over a set of one atom asks that atom alone; any-no, all-no over the empty set
+--   any-no, all-no   == a test over the empty set of atoms
+--   any-one, all-one == a test over a set of one atom asks that atom alone
 --   Single E         == a conjunction lies below E where one of its conjuncts does: E is an atom
+--   single-name, single-some, single-atom == names, restrictions and atoms are
 --   left-below       == the left conjunction of a line lies below an atom where one of its entries does
 --   atom-declared    == the fillers of a declared table's rows are declared
 --   Answers fb σ     == fb answers for the fillers of rows as the order does under σ
 --   atom-agrees      == the test of two atoms answers the order between them
 --   Says S D         == the set S and the description D say the same, as left and as right side
+--   says-top, says-atom, says-set == the empty set says top, a set of one atom that atom, and each set its conjunction
 --   says-filler, says-entry == a filler's, an entry's set says what it says with the substitution carried out
 --   sets-agree       == the left set lies below each atom of the right one: the order between what the two say
 --   rule             == the two questions answer the order between two fillers with the assignment carried out
@@ -18,49 +20,23 @@
 use mathlib.Core.Path.{_≡_, refl, sym, ap, ap₂, subst, _∙_}
 use mathlib.Core.Bool.{Bool, true, false, _&&_, _||_, not}
 use mathlib.Core.List.{List, [], _∷_}
-use Prim.Native.Nat.{ℕ, zero, suc, _+_, _-_, _/_, _%_, _^_, _≤_, _<_}
+use Prim.Native.Nat.{ℕ, zero, suc, _+_, _-_, _^_, _≤_, _<_}
 use native.Mathlib.Omega.{arith}
-use native.Mathlib.Nat.{pow-suc, div-eq-of-lt, div-self, mul-div-cancel}
-use native.Mathlib.Decide.{ℕ-discrete, decLt}
 use lib.Dec.{T, eqb, ltb, eqb→eq, eqb-refl, ltb→lt}
 use lib.ListN.{length, getD}
 use lib.Bits.{bitOr}
-use lib.Pow.{pow-pos, pow-lt, pow-add}
-use borrow.Author.Tests.{eq-eqb, ne-eqb, le-ltb, ltb-true, ltb-false}
+use borrow.Author.Tests.{ne-eqb, ltb-true, ltb-false}
 use Rattle.el.specs.Test.{anyBelow, allBelow, anyOf, everyOf, bit}
-use Rattle.el.specs.TestLaws.{is-true, same-test, true-is, and-make, and-left, and-right, anyBelow-hit, anyBelow-found, anyBelow-none, anyBelow-same, anyBelow-true-at, anyOf-hit, anyOf-found, allBelow-at, allBelow-all, allBelow-same, allBelow-every, bit-none}
+use Rattle.el.specs.TestLaws.{is-true, same-test, true-is, and-make, and-left, and-right, anyBelow-hit, anyBelow-found, anyBelow-none, anyBelow-same, anyBelow-true-at, anyOf-places, allBelow-at, allBelow-all, allBelow-same, allBelow-every, bit-none}
 use Rattle.el.specs.Description.{Description, top, name, meet, some, below}
 use Rattle.el.specs.OrderLaws.{below-refl}
-use Rattle.el.specs.Table.{Filler, topF, constantF, variableF, Entry, constant, restriction, variable, Row, Line, Table, rowAt, atoms, fillerDeclared, rowDeclared, entryDeclared, lineDeclared, declared}
+use Rattle.el.specs.Table.{Filler, topF, constantF, variableF, Entry, constant, restriction, variable, Row, Line, Table, rowAt, atoms, fillerDeclared, entryDeclared, lineDeclared, declared}
 use Rattle.el.specs.Meaning.{Substitution, fillerUnder, rowUnder, entryUnder, leftUnder, holds}
 use Rattle.el.specs.Assignment.{Assignment, setOf, acyclic, atomUnder, conjoin, setUnder, inducedTo, induced}
-use Rattle.el.specs.InducedLaws.{conjoin-below, conjoin-name, conjoin-some, induced-at}
-use Rattle.order.specs.BitLaws.{bit-or}
+use Rattle.el.specs.TableLaws.{row-declared}
+use Rattle.el.specs.InducedLaws.{conjoin-below, conjoin-name, conjoin-some, atomUnder-constant, atomUnder-row, induced-at}
+use Rattle.order.specs.BitLaws.{bit-power, bit-or}
 use Rattle.order.specs.Rule.{fillerSet, entrySet, unionTo, leftSet, atomRow, flatTest, atomTest, setTest, fillerTest, entryTest, leftTest, lineTest}
-
-----------------------------------------------------------------------------------------------------
--- Bits
-
-even : (d : ℕ) → 2 ^ suc d % 2 ≡ 0
-even d = rw (pow-suc 2 d) (omega arith)
-
-power-over : (i d : ℕ) → 2 ^ (d + i) / 2 ^ i ≡ 2 ^ d
-power-over i d = rw (pow-add 2 d i) (mul-div-cancel (2 ^ d) (pow-pos i))
-
-pub bit-power : (i k : ℕ) → bit i (2 ^ k) ≡ eqb i k
-unfolding bit
-bit-power i k = go (ℕ-discrete i k) (decLt i k)
-  where
-    low : (d : ℕ) → suc d + i ≡ k → 2 ^ k / 2 ^ i % 2 ≡ 0
-    low d e = ap (λ (m : ℕ). 2 ^ m / 2 ^ i % 2) (sym e) ∙ ap (λ (m : ℕ). m % 2) (power-over i (suc d)) ∙ even d
-
-    high : k < i → 2 ^ k / 2 ^ i ≡ 0
-    high h = div-eq-of-lt (pow-lt h)
-
-    go : Dec (i ≡ k) → Dec (i < k) → eqb (2 ^ k / 2 ^ i % 2) 1 ≡ eqb i k
-    go (yes e) l = ap (λ (m : ℕ). eqb (2 ^ k / 2 ^ m % 2) 1) e ∙ ap (λ (m : ℕ). eqb (m % 2) 1) (div-self (pow-pos k)) ∙ sym (eq-eqb i k e)
-    go (no n) (yes l) = ap (λ (m : ℕ). eqb m 1) (low (k - suc i) (omega arith)) ∙ sym (ne-eqb i k n)
-    go (no n) (no l) = ap (λ (m : ℕ). eqb (m % 2) 1) (high (omega arith)) ∙ sym (ne-eqb i k n)
 
 ----------------------------------------------------------------------------------------------------
 -- Sets of one atom and of none
@@ -145,15 +121,9 @@ module _ (under : ℕ → ℕ → Bool) where
 ----------------------------------------------------------------------------------------------------
 -- What a table declares
 
-row-declared : (t : Table) (rows : List Row) → T (everyOf (rowDeclared t) rows) → (k : ℕ) → T (fillerDeclared t (rowAt rows k .filler))
-unfolding everyOf rowAt
-row-declared t [] u k = tt
-row-declared t (row ∷ rows) u zero = and-right (ltb (row .role) (t .roles)) (fillerDeclared t (row .filler)) (and-left (rowDeclared t row) (everyOf (rowDeclared t) rows) u)
-row-declared t (row ∷ rows) u (suc k) = row-declared t rows (and-right (rowDeclared t row) (everyOf (rowDeclared t) rows) u) k
-
 pub atom-declared : (t : Table) → T (declared t) → (i : ℕ) → T (fillerDeclared t (atomRow t i .filler))
-unfolding declared atomRow
-atom-declared t u i = row-declared t (t .rows) (and-left (everyOf (rowDeclared t) (t .rows)) (everyOf (lineDeclared t) (t .lines)) u) (i - t .constants)
+unfolding atomRow
+atom-declared t u i = row-declared t u (i - t .constants)
 
 ----------------------------------------------------------------------------------------------------
 -- The rule
@@ -229,13 +199,6 @@ any-or (suc n) A B q =
     ap₂ (λ x y. x || (y && q n)) (any-or n A B q) (bit-or n A B)
     ∙ spread (anyBelow n (λ i. bit i A && q i)) (anyBelow n (λ i. bit i B && q i)) (bit n A) (bit n B) (q n)
 
--- a test over a list asks each place
-any-places : {A : Type 0} (p : A → Bool) (l : List A) (d : A) → anyOf p l ≡ anyBelow (length l) (λ i. p (getD l i d))
-any-places p l d =
-    same-test (anyOf p l) (anyBelow (length l) (λ i. p (getD l i d)))
-    (λ u. let r = anyOf-found p l d u in anyBelow-hit (length l) (r .0) (λ i. p (getD l i d)) (r .1) (r .2))
-    (λ u. let r = anyBelow-found (length l) (λ i. p (getD l i d)) u in anyOf-hit p l (r .0) d (r .1) (r .2))
-
 module _ (under : ℕ → ℕ → Bool) (t : Table) where
   pub set-or : (fb : Filler → Filler → Bool) (A B j : ℕ) → setTest under t fb (bitOr A B) j ≡ setTest under t fb A j || setTest under t fb B j
   unfolding setTest
@@ -255,22 +218,10 @@ module _ (under : ℕ → ℕ → Bool) (t : Table) where
     pub left-union : leftTest under t a l j ≡ setTest under t (fillerTest under t a (t .variables)) (leftSet t a l) j
     unfolding leftTest entryTest leftSet
     left-union =
-        any-places (λ x. setTest under t (fillerTest under t a (t .variables)) (entrySet t a x) j) l (constant 0)
+        anyOf-places (λ x. setTest under t (fillerTest under t a (t .variables)) (entrySet t a x) j) l (constant 0)
         ∙ sym (union-asks (fillerTest under t a (t .variables)) (length l))
 
 -- constant k is atom k, restriction k is atom c + k
-atom-constant : (t : Table) (σ : Substitution) (k : ℕ) → T (ltb k (t .constants)) → atomUnder t σ k ≡ name k
-unfolding atomUnder
-atom-constant t σ k u = ap (λ b. elim b [ true ↦ name k | false ↦ rowUnder σ (rowAt (t .rows) (k - t .constants)) ]) (is-true (ltb k (t .constants)) u)
-
-atom-restriction : (t : Table) (σ : Substitution) (k : ℕ) → atomUnder t σ (t .constants + k) ≡ rowUnder σ (rowAt (t .rows) k)
-unfolding atomUnder
-atom-restriction t σ k =
-    ap (λ b. elim b [ true ↦ name (t .constants + k) | false ↦ rowUnder σ (rowAt (t .rows) (t .constants + k - t .constants)) ]) (le-ltb (t .constants + k) (t .constants) (omega arith)) ∙ ap (λ (i : ℕ). rowUnder σ (rowAt (t .rows) i)) (back (t .constants))
-  where
-    back : (c : ℕ) → c + k - c ≡ k
-    back c = omega arith
-
 constant-in : (t : Table) (k : ℕ) → T (ltb k (t .constants)) → k < atoms t
 unfolding atoms
 constant-in t k u = let h : k < t .constants = ltb→lt k (t .constants) u in omega arith
@@ -281,7 +232,7 @@ restriction-in t k u = let h : k < length (t .rows) = ltb→lt k (length (t .row
 
 module _ (under : ℕ → ℕ → Bool) (t : Table) (fb : Filler → Filler → Bool) (σ : Substitution) (agree : Answers under t fb σ) where
   says-constant : (k : ℕ) → T (ltb k (t .constants)) → Says under t fb σ agree (2 ^ k) (name k)
-  says-constant k u = subst (Says under t fb σ agree (2 ^ k)) (atom-constant t σ k u) (says-atom under t fb σ agree k (constant-in t k u))
+  says-constant k u = subst (Says under t fb σ agree (2 ^ k)) (atomUnder-constant t σ k (ltb→lt k (t .constants) u)) (says-atom under t fb σ agree k (constant-in t k u))
 
   -- τ is σ carried out once more
   module _ (a : Assignment) (τ : Substitution) (once : (x : ℕ) → x < t .variables → τ x ≡ setUnder t σ (setOf a x)) where
@@ -298,7 +249,7 @@ module _ (under : ℕ → ℕ → Bool) (t : Table) (fb : Filler → Filler → 
     pub says-entry : (x : Entry) → T (entryDeclared t x) → Says under t fb σ agree (entrySet t a x) (entryUnder (t .rows) σ x)
     unfolding entrySet
     says-entry (constant k) u = says-constant k u
-    says-entry (restriction k) u = subst (Says under t fb σ agree (2 ^ (t .constants + k))) (atom-restriction t σ k) (says-atom under t fb σ agree (t .constants + k) (restriction-in t k u))
+    says-entry (restriction k) u = subst (Says under t fb σ agree (2 ^ (t .constants + k))) (atomUnder-row t σ k) (says-atom under t fb σ agree (t .constants + k) (restriction-in t k u))
     says-entry (variable x) u = says-variable a σ once x u
 
 module _ (under : ℕ → ℕ → Bool) (t : Table) (fine : T (declared t)) (a : Assignment) where

@@ -25,7 +25,7 @@ fn wide(x: u8) -> usize
 }
 
 // Bit i of the set number s.
-pub fn bit_of(s: u32, i: usize) -> bool
+fn bit_of(s: u32, i: usize) -> bool
     requires { ⌜ i < 32 ⌝ }
     ensures { λ r. ⌜ r ≡ bit i s ⌝ }
 {

@@ -2,11 +2,13 @@
 --
 --   put-four       == four stores at the start of a list
 --   setBytes-length, setBytes-snoc == how long they are, and one set more
+--   written-length, written-none == the output keeps its length, and no set changes nothing
 --   tail-part, tail-put == a tail of a slice, lent and put back
+--   part-room      == a tail that is lent has room for one set
 --   turn           == a turn of the writer's loop
-use mathlib.Core.Path.{_≡_, refl, sym, ap, ap₂, subst, _∙_}
+use mathlib.Core.Path.{_≡_, refl, sym, ap, ap₂, _∙_}
 use mathlib.Core.List.{List, [], _∷_, _++_, append-assoc, append-nil}
-use Prim.Native.Nat.{ℕ, zero, suc, _<_, _+_, _*_, _-_, _≤_}
+use Prim.Native.Nat.{ℕ, _<_, _+_, _*_, _-_, _≤_}
 use native.Mathlib.Omega.{arith}
 use native.Mathlib.Nat.{le-refl}
 use native.Mathlib.Numerals.{add-one}

@@ -1,6 +1,5 @@
 // Reads many tables and prints what the public calls answer: for the reader a line with number, place and the five counts,
 // for the line call a line with the length of the part and its bytes. Each group has a title.
-ghost use mathlib.Core.Path.{_≡_};
 ghost use Prim.Native.Nat.{_≤_, _<_};
 use libc::STDOUT_FILENO;
 

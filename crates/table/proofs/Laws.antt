@@ -1,6 +1,7 @@
 -- Laws that carry the reader's code to the reading's definition.
 --
 --   kind-..                      == the kind of a code in each range
+--   some-within                  == a number is in range exactly if something is read
 --   filler-.., entry-..          == whether a code is a filler, an entry, by its kind
 --   stop-if, pass-if             == a refusal where its test passes, and past it
 --   stop-code, next-code         == a code that is refused, and one that is read
@@ -8,15 +9,13 @@
 --   turn-start, turn-stop, turn-next, turn-end == the turns of a loop over many of a kind
 --   mark-.., version-..          == the tests of the mark and the version, by the byte at which they end
 --   header-.., row-.., rows-.., entry-.., entries-.., line-.., lines-.., body-.., check-.. == each answer of the function so named
---   start-..                     == the loop over the places where lines begin
-use mathlib.Core.Path.{_≡_, refl, sym, ap, subst, _∙_}
+use mathlib.Core.Path.{_≡_, refl, sym, ap, _∙_}
 use mathlib.Core.Bool.{Bool, true, false, not, cond, true≢false}
 use mathlib.Core.List.{List, [], _∷_}
 use mathlib.Core.Option.{Option, none, some}
-use Prim.Native.Nat.{ℕ, suc, _+_, _*_, _-_, _≤_, _<_}
+use Prim.Native.Nat.{ℕ, suc, _+_, _-_, _≤_, _<_}
 use native.Mathlib.Omega.{arith}
-use native.Mathlib.Numerals.{add-one}
-use lib.Dec.{T, eqb, ltb}
+use lib.Dec.{eqb, ltb}
 use lib.ListN.{length}
 use borrow.Author.Tests.{lt-ltb, le-ltb, le-leb, lt-leb, eq-eqb, ne-eqb}
 use Rattle.el.specs.Table.{constantF, variableF, Entry, constant, restriction, variable, Row, Line, Table}
@@ -25,10 +24,9 @@ use Rattle.table.specs.declared.Step.{Step}
 use Rattle.table.specs.declared.Step.the-variants.{Next, Stop}
 use Rattle.table.specs.declared.Verdict.the-variants.{Refused, Readable}
 use Rattle.table.specs.Code.{kindOf, within, fillerOfKind, fillerOf, entryOfKind, entryOf}
-use Rattle.table.specs.Reading.{Read, refused, got, refuseIf, andThen, orRefused, byteAt, Header, headerOf, marked, versionOne, readHeader, readRow, readRows, readEntry, readEntries, readLine, readLines, readBody, whole, fromHeader, reading, isReadable, maxAtoms, maxRoles, maxVariables, maxLines, maxLeft}
+use Rattle.table.specs.Reading.{Read, refused, got, refuseIf, andThen, orRefused, byteAt, Header, headerOf, marked, versionOne, readHeader, readRow, readRows, readEntry, readEntries, readLine, readLines, readBody, whole, fromHeader, reading, maxAtoms, maxRoles, maxVariables, maxLines, maxLeft}
 use Rattle.table.specs.Step.{isSome, stepOf, verdictOf}
-use Rattle.table.specs.Layout.{lineStart}
-use Rattle.table.specs.LayoutLaws.{header-read, layout}
+use Rattle.table.specs.LayoutLaws.{header-read}
 
 ------------------------------------------------------------------ codes
 
@@ -466,20 +464,3 @@ module _ (s : List ℕ) where
       go : (x : Read Table) → stepOf x ≡ Next end → Readable ≡ verdictOf (whole (headerOf s) x)
       go (refused m k) q = absurd (next-stop end m k (sym q))
       go (got t at) q = refl
-
------------------------------------------------------------------- where lines begin
-
-module _ (s : List ℕ) (ok : T (isReadable (reading s))) where
-  pub header-there : 10 ≤ length s
-  header-there = layout s ok .header-in
-
-  pub start-first : (e : ℕ) → e ≡ byteAt s 8 → 10 + 2 * e ≡ lineStart s 0
-  unfolding lineStart
-  start-first e q = ap (λ (k : ℕ). 10 + 2 * k) q
-
-  pub start-room : (i at : ℕ) → at ≡ lineStart s i → i < byteAt s 9 → at + byteAt s at + 2 ≤ length s
-  start-room i at q w = subst (λ (x : ℕ). x + byteAt s x + 2 ≤ length s) (sym q) (layout s ok .line-in i w)
-
-  pub start-next : (i at p : ℕ) → at ≡ lineStart s i → p ≡ byteAt s at → at + p + 2 ≡ lineStart s (i + 1)
-  unfolding lineStart
-  start-next i at p q e = ap (λ (k : ℕ). at + k + 2) e ∙ ap (λ (x : ℕ). x + byteAt s x + 2) q ∙ ap (lineStart s) (sym (add-one i))

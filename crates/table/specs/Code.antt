@@ -3,7 +3,7 @@
 --   kindOf b             == the kind of the code b by its range, with its number k
 --   fillerOf c v b       == the filler that the code b writes, where it is allowed and declared
 --   entryOf c e v b      == the entry that the code b writes, where it is allowed and declared
-use mathlib.Core.Bool.{Bool, true, false, _&&_, cond}
+use mathlib.Core.Bool.{_&&_, cond}
 use mathlib.Core.Option.{Option, none, some}
 use Prim.Native.Nat.{ℕ, _-_}
 use lib.Dec.{eqb, leb, ltb}

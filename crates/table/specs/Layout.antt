@@ -9,7 +9,7 @@ use mathlib.Core.Option.{some}
 use Prim.Native.Nat.{ℕ, zero, suc, _+_, _*_, _≤_, _<_}
 use lib.Dec.{T}
 use lib.ListN.{length, getD}
-use Rattle.el.specs.Table.{Entry, constant, Line, Table, rowAt, declared}
+use Rattle.el.specs.Table.{constant, Line, Table, rowAt, declared}
 use Rattle.table.specs.Code.{fillerOf, entryOf}
 use Rattle.table.specs.Reading.{byteAt, maxAtoms, maxRoles, maxVariables, maxLines, maxLeft}
 

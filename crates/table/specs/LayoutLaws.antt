@@ -1,34 +1,45 @@
 -- The bytes of a readable table lie as its table says.
 --
+--   refused-got, got-same        == a refusal is not something read, and two readings of one thing are equal
 --   refuse-got, then-got, or-got == what is known where something was read past a refusal, in two steps, from a code
 --   RowRead s h at row           == the two bytes at `at` are the row
 --   EntryRead s h at x           == the byte at `at` is the entry
 --   LineRead s h at l            == the bytes from `at` on are the line
 --   after s at n                 == the place after n lines from `at` on
+--   after-first, start-after     == the first of them first, and `lineStart` in these words
 --   RowsRead, EntriesRead, LinesRead == the same of as many as are counted, and the place after them
 --   row-read, rows-read, entry-read, entries-read, line-read, lines-read == what was read is there
---   HeaderRead s h               == the ten bytes are the header, within its bounds
---   BodyRead s h t               == the bytes from 10 on are the table's rows and lines, and nothing follows
---   filler-declared, entry-declared, every-at == what was read is declared
+--   HeaderRead s h, header-read  == the ten bytes are the header, within its bounds
+--   tableWith h rows lines       == the table of a header, with these rows and lines
+--   BodyRead s h t, body-read    == the bytes from 10 on are the table's rows and lines, and nothing follows
+--   within-some                  == a number that was read is in range
+--   filler-declared, entry-declared == what was read is declared
+--   laid, read-layout            == what was read makes a layout
 --   layout                       == a readable table's bytes lie as its table says
 --   readable-header              == a reading's header and table are headerOf and tableOf
+--   refused-readable, readable-is == a verdict is one of the two, and where it is "readable" the reading is
+--   start-first, start-next      == where the first line begins, and the next one
+--   line-inside                  == a line lies inside its table
 --   longest                      == "The longest readable table has 698 bytes."
 use mathlib.Core.Path.{_≡_, refl, sym, ap, subst, _∙_}
 use mathlib.Core.Bool.{Bool, true, false, not, cond}
 use mathlib.Core.List.{List, [], _∷_}
-use mathlib.Core.Option.{Option, none, some}
+use mathlib.Core.Option.{Option, none, some, Option·none-ne-some}
 use Prim.Native.Nat.{ℕ, zero, suc, _+_, _*_, _≤_, _<_}
 use native.Mathlib.Omega.{arith}
+use native.Mathlib.Numerals.{add-one}
 use lib.Dec.{T, leb, ltb, lt→ltb}
 use lib.ListN.{length, getD}
-use mir.Facts.{yes-and}
 use borrow.Author.Tests.{ltb-true, ltb-false, leb-false}
 use Rattle.el.specs.Test.{everyOf}
+use Rattle.el.specs.TestLaws.{and-make, everyOf-all}
 use Rattle.el.specs.Table.{Filler, topF, constantF, variableF, Entry, constant, restriction, variable, Row, Line, Table, rowAt, rowDeclared, fillerDeclared, entryDeclared, lineDeclared, declared}
 use Rattle.table.specs.declared.Kind.{Kind}
 use Rattle.table.specs.declared.Kind.the-variants.{Top, Constant, Restriction, Variable, Other}
+use Rattle.table.specs.declared.Verdict.the-variants.{Refused, Readable}
 use Rattle.table.specs.Code.{kindOf, within, fillerOfKind, fillerOf, entryOfKind, entryOf}
-use Rattle.table.specs.Reading.{Read, refused, got, refuseIf, andThen, orRefused, byteAt, missing, Header, headerOf, marked, versionOne, readHeader, readRow, readRows, readEntry, readEntries, readLine, readLines, readBody, readable, whole, fromHeader, reading, theTable, tableOf, isReadable, maxAtoms, maxRoles, maxVariables, maxLines, maxLeft}
+use Rattle.table.specs.Reading.{Read, refused, got, refuseIf, andThen, orRefused, byteAt, missing, Header, headerOf, marked, versionOne, readHeader, readRow, readRows, readEntry, readEntries, readLine, readLines, readBody, Reading, refusal, readable, whole, fromHeader, reading, theTable, tableOf, isReadable, maxAtoms, maxRoles, maxVariables, maxLines, maxLeft}
+use Rattle.table.specs.Step.{verdictOf}
 use Rattle.table.specs.Layout.{lineAt, lineStart, Layout}
 
 pub refused-got : {A : Type 0} (n p : ℕ) (a : A) (end : ℕ) → refused n p ≡ got a end → ⊥
@@ -303,9 +314,6 @@ within-some k n a x q = go (ltb k n) refl q
     go true e q = (ltb-true k n e, cc)
     go false e q = let z : _≡_ {A = ℕ} 0 1 = cc in absurd (let y : ⊥ = omega arith in y)
 
-none-some : {A : Type 0} (x : A) → none ≡ some x → ⊥
-none-some x q = let z : _≡_ {A = ℕ} 0 1 = cc in omega arith
-
 module _ (t : Table) where
   pub filler-declared : (b : ℕ) (f : Filler) → fillerOf (t .constants) (t .variables) b ≡ some f → T (fillerDeclared t f)
   unfolding fillerOf fillerOfKind
@@ -314,25 +322,20 @@ module _ (t : Table) where
       go : (k : Kind) → fillerOfKind (t .constants) (t .variables) k ≡ some f → T (fillerDeclared t f)
       go Top q = let e : topF ≡ f = cc in subst (λ (x : Filler). T (fillerDeclared t x)) e tt
       go (Constant k) q = let w = within-some k (t .constants) (constantF k) f q in subst (λ (x : Filler). T (fillerDeclared t x)) (w .1) (lt→ltb k (t .constants) (w .0))
-      go (Restriction k) q = absurd (none-some f q)
+      go (Restriction k) q = absurd (Option·none-ne-some f q)
       go (Variable k) q = let w = within-some k (t .variables) (variableF k) f q in subst (λ (x : Filler). T (fillerDeclared t x)) (w .1) (lt→ltb k (t .variables) (w .0))
-      go Other q = absurd (none-some f q)
+      go Other q = absurd (Option·none-ne-some f q)
 
   pub entry-declared : (b : ℕ) (x : Entry) → entryOf (t .constants) (length (t .rows)) (t .variables) b ≡ some x → T (entryDeclared t x)
   unfolding entryOf entryOfKind
   entry-declared b x q = go (kindOf b) q
     where
       go : (k : Kind) → entryOfKind (t .constants) (length (t .rows)) (t .variables) k ≡ some x → T (entryDeclared t x)
-      go Top q = absurd (none-some x q)
+      go Top q = absurd (Option·none-ne-some x q)
       go (Constant k) q = let w = within-some k (t .constants) (constant k) x q in subst (λ (y : Entry). T (entryDeclared t y)) (w .1) (lt→ltb k (t .constants) (w .0))
       go (Restriction k) q = let w = within-some k (length (t .rows)) (restriction k) x q in subst (λ (y : Entry). T (entryDeclared t y)) (w .1) (lt→ltb k (length (t .rows)) (w .0))
       go (Variable k) q = let w = within-some k (t .variables) (variable k) x q in subst (λ (y : Entry). T (entryDeclared t y)) (w .1) (lt→ltb k (t .variables) (w .0))
-      go Other q = absurd (none-some x q)
-
-pub every-at : {A : Type 0} (p : A → Bool) (d : A) (l : List A) → ((i : ℕ) → i < length l → T (p (getD l i d))) → T (everyOf p l)
-unfolding everyOf
-every-at p d [] each = tt
-every-at p d (x ∷ l) each = yes-and (p x) (everyOf p l) (each 0 (omega arith)) (every-at p d l (λ i w. each (suc i) (omega arith)))
+      go Other q = absurd (Option·none-ne-some x q)
 
 ------------------------------------------------------------------ the layout
 
@@ -363,7 +366,7 @@ module _ (s : List ℕ) (rows : List Row) (lines : List Line)
   row-declared k w =
       let there = row-there k (let m : length rows ≡ byteAt s 8 = rows-in .many in omega arith) in
       let less : rowAt rows k .role < byteAt s 6 = rw (there .role) (there .role-less) in
-      yes-and (ltb (rowAt rows k .role) (byteAt s 6)) (fillerDeclared built (rowAt rows k .filler)) (lt→ltb (rowAt rows k .role) (byteAt s 6) less) (filler-declared built (byteAt s (10 + 2 * k + 1)) (rowAt rows k .filler) (there .filler))
+      and-make (ltb (rowAt rows k .role) (byteAt s 6)) (fillerDeclared built (rowAt rows k .filler)) (lt→ltb (rowAt rows k .role) (byteAt s 6) less) (filler-declared built (byteAt s (10 + 2 * k + 1)) (rowAt rows k .filler) (there .filler))
 
   entry-there : (at : ℕ) (x : Entry) → EntryRead s (headerOf s) at x → T (entryDeclared built x)
   entry-there at x there = entry-declared built (byteAt s at) x (ap (λ (e : ℕ). entryOf (byteAt s 5) e (byteAt s 7) (byteAt s at)) (rows-in .many) ∙ there .entry)
@@ -372,16 +375,16 @@ module _ (s : List ℕ) (rows : List Row) (lines : List Line)
   line-declared n w =
       let there = line-there n (let m : length lines ≡ byteAt s 9 = lines-in .many in omega arith) in
       let many : length (lineAt lines n .left) ≡ byteAt s (lineStart s n) = there .left-many in
-      yes-and (everyOf (entryDeclared built) (lineAt lines n .left)) (entryDeclared built (lineAt lines n .right))
-      (every-at (entryDeclared built) (constant 0) (lineAt lines n .left) (λ i l. entry-there _ _ (there .left-each i (omega arith))))
+      and-make (everyOf (entryDeclared built) (lineAt lines n .left)) (entryDeclared built (lineAt lines n .right))
+      (everyOf-all (entryDeclared built) (lineAt lines n .left) (constant 0) (λ i l. entry-there _ _ (there .left-each i (omega arith))))
       (entry-there _ _ (there .right-one))
 
   built-declared : T (declared built)
   unfolding declared rowAt lineAt
   built-declared =
-      yes-and (everyOf (rowDeclared built) rows) (everyOf (lineDeclared built) lines)
-      (every-at (rowDeclared built) (record { role = 0; filler = topF }) rows row-declared)
-      (every-at (lineDeclared built) (record { left = []; right = constant 0 }) lines line-declared)
+      and-make (everyOf (rowDeclared built) rows) (everyOf (lineDeclared built) lines)
+      (everyOf-all (rowDeclared built) rows (record { role = 0; filler = topF }) row-declared)
+      (everyOf-all (lineDeclared built) lines (record { left = []; right = constant 0 }) line-declared)
 
   pub laid : Layout s built
   laid =
@@ -441,6 +444,30 @@ readable-header s h t q = (go (readHeader s) refl q, sym (ap theTable q))
     go : (x : Read Header) → readHeader s ≡ x → fromHeader s x ≡ readable h t → h ≡ headerOf s
     go (refused n p) e q = let z : _≡_ {A = ℕ} 0 1 = cc in absurd (let y : ⊥ = omega arith in y)
     go (got k at) e q = sym (inner k (readBody s k) q) ∙ header-read s k at e .same
+
+pub refused-readable : (n p : ℕ) → Refused n p ≡ Readable → ⊥
+refused-readable n p q = let z : _≡_ {A = ℕ} 0 1 = cc in omega arith
+
+pub readable-is : (s : List ℕ) → verdictOf (reading s) ≡ Readable → T (isReadable (reading s))
+unfolding verdictOf
+readable-is s q = go (reading s) q
+  where
+    go : (x : Reading) → verdictOf x ≡ Readable → T (isReadable x)
+    go (refusal n p) q = absurd (refused-readable n p q)
+    go (readable h t) q = tt
+
+------------------------------------------------------------------ where lines lie
+
+pub start-first : (s : List ℕ) (e : ℕ) → e ≡ byteAt s 8 → 10 + 2 * e ≡ lineStart s 0
+unfolding lineStart
+start-first s e q = ap (λ (k : ℕ). 10 + 2 * k) q
+
+pub start-next : (s : List ℕ) (n at p : ℕ) → at ≡ lineStart s n → p ≡ byteAt s at → at + p + 2 ≡ lineStart s (n + 1)
+unfolding lineStart
+start-next s n at p e q = ap (λ (k : ℕ). at + k + 2) q ∙ ap (λ (k : ℕ). k + byteAt s k + 2) e ∙ ap (lineStart s) (sym (add-one n))
+
+pub line-inside : (s : List ℕ) → T (isReadable (reading s)) → (n at : ℕ) → n < byteAt s 9 → at ≡ lineStart s n → at + byteAt s at + 2 ≤ length s
+line-inside s ok n at few begins = subst (λ (k : ℕ). k + byteAt s k + 2 ≤ length s) (sym begins) (layout s ok .line-in n few)
 
 starts-within : (s : List ℕ) (t : Table) → Layout s t → (n : ℕ) → n ≤ byteAt s 9 → lineStart s n ≤ 10 + 2 * byteAt s 8 + 10 * n
 unfolding lineStart

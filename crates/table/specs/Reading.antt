@@ -18,7 +18,7 @@ use mathlib.Core.Option.{Option, none, some}
 use Prim.Native.Nat.{ℕ, zero, suc, _+_}
 use lib.Dec.{eqb, leb, ltb}
 use lib.ListN.{length, getD}
-use Rattle.el.specs.Table.{Filler, Entry, Row, Line, Table}
+use Rattle.el.specs.Table.{Entry, Row, Line, Table}
 use Rattle.table.specs.Code.{fillerOf, entryOf}
 
 -- "Bounds: c + e at most 24, r at most 16, v at most 12, m at most 64, p at most 8."

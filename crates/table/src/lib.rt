@@ -79,7 +79,7 @@ pub fn kind_of(code: u8) -> Kind
 }
 
 // Is the code a filler, where c constants and v variables are declared?
-pub fn filler_ok(code: u8, c: u8, v: u8) -> bool
+fn filler_ok(code: u8, c: u8, v: u8) -> bool
     ensures { λ r. ⌜ r ≡ isSome (fillerOf c v code) ⌝ }
 {
     match kind_of(code) {
@@ -92,7 +92,7 @@ pub fn filler_ok(code: u8, c: u8, v: u8) -> bool
 }
 
 // Is the code a left or right entry, where c constants, e restrictions and v variables are declared?
-pub fn entry_ok(code: u8, c: u8, e: u8, v: u8) -> bool
+fn entry_ok(code: u8, c: u8, e: u8, v: u8) -> bool
     ensures { λ r. ⌜ r ≡ isSome (entryOf c e v code) ⌝ }
 {
     match kind_of(code) {
@@ -126,7 +126,7 @@ fn is_version_one(table: &[u8]) -> bool
 }
 
 // Bytes 0 to 9.
-pub fn read_header(table: &[u8]) -> Step
+fn read_header(table: &[u8]) -> Step
     ensures { λ r. ⌜ r ≡ stepOf (readHeader (now (table .entry))) ⌝ }
 {
     if table.len() < HEADER {
@@ -156,7 +156,7 @@ pub fn read_header(table: &[u8]) -> Step
 }
 
 // The restriction row that begins at the byte `at`.
-pub fn read_row(table: &[u8], at: usize) -> Step
+fn read_row(table: &[u8], at: usize) -> Step
     requires { ⌜ 10 ≤ length (now table) ⌝ }
     ensures { λ r. ⌜ r ≡ stepOf (readRow (now (table .entry)) (headerOf (now (table .entry))) at) ⌝ }
 {
@@ -176,7 +176,7 @@ pub fn read_row(table: &[u8], at: usize) -> Step
 }
 
 // `count` rows from the byte `from` on.
-pub fn read_rows(table: &[u8], count: usize, from: usize) -> Step
+fn read_rows(table: &[u8], count: usize, from: usize) -> Step
     requires { ⌜ 10 ≤ length (now table) ⌝ }
     ensures { λ r. ⌜ r ≡ stepOf (readRows (now (table .entry)) (headerOf (now (table .entry))) count from) ⌝ }
 {
@@ -197,7 +197,7 @@ pub fn read_rows(table: &[u8], count: usize, from: usize) -> Step
 }
 
 // The entry at the byte `at`.
-pub fn read_entry(table: &[u8], at: usize) -> Step
+fn read_entry(table: &[u8], at: usize) -> Step
     requires { ⌜ 10 ≤ length (now table) ⌝ }
     ensures { λ r. ⌜ r ≡ stepOf (readEntry (now (table .entry)) (headerOf (now (table .entry))) at) ⌝ }
 {
@@ -216,7 +216,7 @@ pub fn read_entry(table: &[u8], at: usize) -> Step
 }
 
 // `count` entries from the byte `from` on.
-pub fn read_entries(table: &[u8], count: usize, from: usize) -> Step
+fn read_entries(table: &[u8], count: usize, from: usize) -> Step
     requires { ⌜ 10 ≤ length (now table) ⌝ }
     ensures { λ r. ⌜ r ≡ stepOf (readEntries (now (table .entry)) (headerOf (now (table .entry))) count from) ⌝ }
 {
@@ -237,7 +237,7 @@ pub fn read_entries(table: &[u8], count: usize, from: usize) -> Step
 }
 
 // The line that begins at the byte `at`: an over-large left count is refused before its entries are read.
-pub fn read_line(table: &[u8], at: usize) -> Step
+fn read_line(table: &[u8], at: usize) -> Step
     requires { ⌜ 10 ≤ length (now table) ⌝ }
     ensures { λ r. ⌜ r ≡ stepOf (readLine (now (table .entry)) (headerOf (now (table .entry))) at) ⌝ }
 {
@@ -255,7 +255,7 @@ pub fn read_line(table: &[u8], at: usize) -> Step
 }
 
 // `count` lines from the byte `from` on.
-pub fn read_lines(table: &[u8], count: usize, from: usize) -> Step
+fn read_lines(table: &[u8], count: usize, from: usize) -> Step
     requires { ⌜ 10 ≤ length (now table) ⌝ }
     ensures { λ r. ⌜ r ≡ stepOf (readLines (now (table .entry)) (headerOf (now (table .entry))) count from) ⌝ }
 {
@@ -276,7 +276,7 @@ pub fn read_lines(table: &[u8], count: usize, from: usize) -> Step
 }
 
 // The rows and the lines, and nothing after them.
-pub fn read_body(table: &[u8]) -> Step
+fn read_body(table: &[u8]) -> Step
     requires { ⌜ 10 ≤ length (now table) ⌝ }
     ensures { λ r. ⌜ r ≡ stepOf (readBody (now (table .entry)) (headerOf (now (table .entry)))) ⌝ }
 {

@@ -1,12 +1,17 @@
 -- Laws that carry the writers to what they write.
 --
 --   take-more       == one element more
+--   any ts          == there is a text
 --   joined-more     == one text more
+--   decimal-one, decimal-then == a number of one digit, and one digit more
 --   text-turn, numbers-turn, bytes-turn == a turn of the loop over a slice
+--   numbers-start, bytes-start, all-of == its start, and its end
+--   between-later, between-first == what stands between two texts is written but before the first
+--   hex-none, hex-some == bytes in hexadecimal
 use mathlib.Core.Path.{_≡_, refl, sym, ap, ap₂, _∙_}
 use mathlib.Core.Bool.{Bool, true, false, cond}
 use mathlib.Core.List.{List, [], _∷_, _++_, append-assoc, append-nil, map, map-append}
-use Prim.Native.Nat.{ℕ, zero, suc, _+_, _-_, _/_, _%_, _≤_, _<_}
+use Prim.Native.Nat.{ℕ, zero, suc, _+_, _/_, _%_, _≤_, _<_}
 use native.Mathlib.Omega.{arith}
 use native.Mathlib.Numerals.{add-one}
 use lib.Dec.{ltb}

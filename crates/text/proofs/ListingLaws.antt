@@ -1,15 +1,20 @@
 -- Laws that carry the writers of the listing to its text.
 --
---   filler-..       == a filler by the kind of its code
+--   filler-text     == a code that is a filler is written as that filler
+--   row-in, header-in, few-atoms, variables-are == where the bytes lie, and how many there are
 --   row-text, atom-constant, atom-row == an atom
---   set-turn, set-later, set-some, set-none == the loop over the atoms of a set
---   variable-line, lines-turn == the lines of the variables
+--   atoms-left      == a loop over all atoms has come to its end
+--   atomTexts t s i == the texts of the atoms of the set s with a number below i
+--   atom-out, atom-there == an atom is left out, or written
+--   Below t s b at i later m e == the atoms with a number below i are written, and `later` says whether there were any
+--   below-none, below-turn, set-some, set-none == the loop over the atoms of a set
+--   variable-line, lines-none, lines-turn == the lines of the variables
 --   solved-refused, solved-short, solved-all == the lines of all variables
 --   listing-other, listing-solved == the whole text
 use mathlib.Core.Path.{_≡_, refl, sym, ap, ap₂, _∙_}
-use mathlib.Core.Bool.{Bool, true, false, _||_, cond}
+use mathlib.Core.Bool.{Bool, true, false, _||_, cond, or-true, or-false}
 use mathlib.Core.List.{List, [], _∷_, _++_, append-nil, map, map-append}
-use mathlib.Core.Option.{none, some}
+use mathlib.Core.Option.{some, Option·none-ne-some, Option·some-injective}
 use Prim.Native.Nat.{ℕ, zero, suc, _+_, _*_, _-_, _≤_, _<_}
 use native.Mathlib.Omega.{arith}
 use native.Mathlib.Numerals.{add-one}
@@ -20,11 +25,11 @@ use Rattle.el.specs.Test.{bit}
 use Rattle.el.specs.Table.{Filler, topF, Table, rowAt, atoms}
 use Rattle.table.specs.declared.Kind.{Kind}
 use Rattle.table.specs.declared.Kind.the-variants.{Top, Constant, Restriction, Variable, Other}
-use Rattle.table.specs.declared.Verdict.the-variants.{Refused, Readable}
-use Rattle.table.specs.Code.{kindOf, within, fillerOfKind, fillerOf}
+use Rattle.table.specs.declared.Verdict.the-variants.{Refused}
+use Rattle.table.specs.Code.{kindOf, fillerOfKind, fillerOf}
 use Rattle.table.specs.Reading.{byteAt, Reading, refusal, readable, reading, theTable, tableOf, isReadable}
 use Rattle.table.specs.Step.{verdictOf}
-use Rattle.table.specs.LayoutLaws.{layout}
+use Rattle.table.specs.LayoutLaws.{within-some, layout, refused-readable}
 use Rattle.text.specs.Append.{Appended}
 use Rattle.text.specs.AppendLaws.{appended-none, appended-then, appended-as}
 use Rattle.text.specs.Text.{newline, decimal, joined, numbersText}
@@ -34,24 +39,16 @@ use Rattle.text.proofs.Laws.{any, joined-more}
 ------------------------------------------------------------------ fillers, rows and atoms
 
 -- a code that is a filler is written as that filler
-within-text : (k n : ℕ) (g f : Filler) → within k n g ≡ some f → fillerText g ≡ fillerText f
-unfolding within
-within-text k n g f q = go (ltb k n) q
-  where
-    go : (b : Bool) → cond b (some g) none ≡ some f → fillerText g ≡ fillerText f
-    go true e = ap fillerText (let z : g ≡ f = cc in z)
-    go false e = absurd (let z : _≡_ {A = ℕ} 0 1 = cc in let w : ⊥ = omega arith in w)
-
 filler-text : (c v b : ℕ) (f : Filler) → fillerOf c v b ≡ some f → codeText (kindOf b) ≡ fillerText f
 unfolding fillerOf fillerOfKind codeText fillerText
 filler-text c v b f q = go (kindOf b) q
   where
     go : (k : Kind) → fillerOfKind c v k ≡ some f → codeText k ≡ fillerText f
-    go Top e = ap fillerText (let z : topF ≡ f = cc in z)
-    go (Constant k) e = within-text k c _ f e
-    go (Restriction k) e = absurd (let z : _≡_ {A = ℕ} 0 1 = cc in let w : ⊥ = omega arith in w)
-    go (Variable k) e = within-text k v _ f e
-    go Other e = absurd (let z : _≡_ {A = ℕ} 0 1 = cc in let w : ⊥ = omega arith in w)
+    go Top e = ap fillerText (Option·some-injective topF f e)
+    go (Constant k) e = ap fillerText (within-some k c _ f e .1)
+    go (Restriction k) e = absurd (Option·none-ne-some f e)
+    go (Variable k) e = ap fillerText (within-some k v _ f e .1)
+    go Other e = absurd (Option·none-ne-some f e)
 
 module _ (s : List ℕ) (ok : T (isReadable (reading s))) where
   pub row-in : (k : ℕ) → k < byteAt s 8 → 11 + 2 * k < length s
@@ -134,14 +131,6 @@ module _ (t : Table) (s : ℕ) where
   any-last [] x = refl
   any-last (y ∷ ts) x = refl
 
-  or-true : (b : Bool) → (b || true) ≡ true
-  or-true true = refl
-  or-true false = refl
-
-  or-false : (b : Bool) → (b || false) ≡ b
-  or-false true = refl
-  or-false false = refl
-
   any-more : (i : ℕ) → (any (atomTexts i) || bit i s) ≡ any (atomTexts (i + 1))
   any-more i = go (bit i s) refl
     where
@@ -212,17 +201,6 @@ module _ (t : Table) (out : List ℕ) where
   solved-all n e h x = appended-as x (ap (variableLines t out) (sym e) ∙ sym (solved-by false (le-ltb (length out) (4 * t .variables) (omega arith))))
 
 module _ (s : List ℕ) where
-  refused-readable : (n p : ℕ) → Refused n p ≡ Readable → ⊥
-  refused-readable n p q = let z : _≡_ {A = ℕ} 0 1 = cc in omega arith
-
-  pub readable-is : verdictOf (reading s) ≡ Readable → T (isReadable (reading s))
-  unfolding verdictOf
-  readable-is q = go (reading s) q
-    where
-      go : (x : Reading) → verdictOf x ≡ Readable → T (isReadable x)
-      go (refusal n p) q = absurd (refused-readable n p q)
-      go (readable h t) q = tt
-
   refused-none : (n p : ℕ) → verdictOf (reading s) ≡ Refused n p → tableOf s .variables ≡ 0
   unfolding verdictOf tableOf
   refused-none n p q = go (reading s) q

@@ -1,7 +1,7 @@
 -- Laws of appending.
 --
 --   fitting-none, fitting-all == no byte fits; all bytes fit
---   put-length     == a buffer keeps its length
+--   put-length, appended-length == a buffer keeps its length
 --   appended-none  == the empty text is appended by doing nothing
 --   appended-one   == one byte is appended by a store, where there is room
 --   appended-full  == where there is no room nothing is written

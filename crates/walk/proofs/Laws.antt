@@ -1,37 +1,42 @@
 -- Laws of the steps of the walk, over a list of set numbers a and how many are chosen, k.
 --
---   Goes t a₀ k₀ a k == what comes after the first node comes after the second, and the second is sound where the first is
+--   Goes t a₀ k₀ a k   == what comes after the first node comes after the second, and the second is sound where the first is
+--   kin-sibling, kin-some == a sibling is a node on the way, and a node on the way has a parent
 --   goes-start, goes-up == the loop of `next_node`
---   next-sibling        == where it ends at a sibling
---   next-none           == where no node is left
+--   next-sound         == a sibling of a sound node is sound
+--   next-sibling       == where the loop ends at a sibling
+--   next-none          == where no node is left
 --   looked-dead, looked-solved, looked-down == what examining a node finds
---   kin-sibling     == a node on the way
---   given-variables, given-node == what the table's counts give
+--   given-variables, given-chosen, given-node, given-sweep == what the table's counts give
+--   given-table        == the counts, read off the table's bytes
+--   zeros, sound-root  == the root
 --   turn-solved, turn-on, turn-over == a node of the list, gone along
---   walked-start, walked-found, walked-over, walked-on, walked-spent == a turn of the walk's loop
+--   walked-start, walked-spent, walked-found, walked-over, walked-on == the outcome at the start, and after the step that examined a node
+--   sibling-next, swept-on == dead siblings, gone along
+--   advanced-live, advanced-over, advanced-spent == a sweep by its end, and the step after it
+--   gone-fits, gone-found, gone-over, gone-on == the outcome, after an advance that the rest of the budget allowed
 use mathlib.Core.Path.{_≡_, refl, sym, ap, ap₂, subst, _∙_}
-use mathlib.Core.Bool.{Bool, true, false, _&&_, not}
+use mathlib.Core.Bool.{Bool, true, false}
 use mathlib.Core.List.{List, [], _∷_}
-use Prim.Native.Nat.{ℕ, zero, suc, _+_, _-_, _*_, _%_, _^_, _≤_, _<_}
-use native.Mathlib.Nat.{one-mul, mod-eq-of-lt, sub-zero, add-zero}
+use Prim.Native.Nat.{ℕ, zero, suc, _+_, _-_, _^_, _≤_, _<_}
+use native.Mathlib.Nat.{sub-zero, add-zero}
 use native.Mathlib.Omega.{arith}
 use native.Mathlib.Decide.{ℕ-discrete}
 use lib.ListN.{length, getD, take, set, replicate, length-set}
 use lib.Seq.{getD-set-same, getD-set-other, take-set-le, set-getD, set-set}
 use Rattle.el.specs.Description.{sameRole}
 use Rattle.el.specs.Table.{Table, atoms}
-use lib.Dec.{T, eqb}
-use lib.Pow.{pow-lt, pow-mono}
+use lib.Dec.{T}
+use lib.Pow.{pow-mono}
 use borrow.Author.Tests.{eq-eqb, ne-eqb}
-use lib.Seq.{length-take-le}
-use Rattle.el.specs.Walk.{Node, dead, full, ends, Outcome, solved, nothing, budget, outcome, nodes}
+use Rattle.el.specs.Walk.{Node, dead, full, ends, solved, nothing, budget, outcome}
 use Rattle.el.specs.ScanLaws.{scan, scan-end, scan-spent, scan-solved, scan-on, scan-means}
-use Rattle.el.specs.StepLaws.{remaining, afterwards, remaining-start, remaining-dead, remaining-full, remaining-down, remaining-first, afterwards-hit, afterwards-miss, afterwards-end}
+use Rattle.el.specs.StepLaws.{remaining, afterwards, remaining-start, remaining-dead, remaining-down, remaining-first, afterwards-hit, afterwards-miss, afterwards-end}
 use Rattle.node.specs.declared.Sets.{Sets}
 use Rattle.table.specs.Reading.{byteAt, reading, isReadable, tableOf}
-use Rattle.table.specs.Layout.{Layout}
 use Rattle.table.specs.LayoutLaws.{layout}
 use Rattle.node.specs.Node.{nodeOf, Clean, NodeGiven, Prepares}
+use Rattle.node.specs.SquareLaws.{clean-next, clean-up, length-node}
 use Rattle.level.specs.declared.Level.{Level}
 use Rattle.level.specs.declared.Swept.{Swept}
 use Rattle.level.specs.declared.End as level-end
@@ -56,31 +61,26 @@ unfolding Kin
 kin-child t sets to h w p q =
     (omega arith, subst (λ (x : ℕ). x < 2 ^ atoms t) (sym (ap₂ (λ (l : List ℕ) (i : ℕ). getD l i 0) p (let z : to .chosen - 1 ≡ sets .chosen = omega arith in z) ∙ getD-set-same (sets .set) (sets .chosen) 0 0 h)) w)
 
+-- a node on the way has a parent
+pub kin-some : (t : Table) (sets : Sets) → Kin t sets → 0 < sets .chosen
+unfolding Kin
+kin-some t sets kin = kin .0
+
 pub goes-start : (t : Table) (a : List ℕ) (k : ℕ) → Goes t a k a k
 unfolding Goes
 goes-start t a k = (refl, λ s. s)
 
 module _ (t : Table) (last : ℕ) (width : 2 ^ atoms t ≡ last + 1) (a : List ℕ) (k : ℕ) (some : 0 < k) (fits : k ≤ length a) where
-  clean-set : (y : ℕ) → ((x : ℕ) → k ≤ x → getD a x 0 ≡ 0) → (x : ℕ) → k ≤ x → getD (set a (k - 1) y) x 0 ≡ 0
-  clean-set y f x h = getD-set-other a (k - 1) x y 0 (omega arith) ∙ f x h
-
   above-set : (y : ℕ) → ((j : ℕ) → j < k → dead sameRole t (take j a) ≡ false) → (j : ℕ) → j < k → dead sameRole t (take j (set a (k - 1) y)) ≡ false
   above-set y f j h = ap (dead sameRole t) (take-set-le j a (k - 1) y (omega arith)) ∙ f j h
 
-  up-clean : ((x : ℕ) → k ≤ x → getD a x 0 ≡ 0) → (x : ℕ) → k - 1 ≤ x → getD (set a (k - 1) 0) x 0 ≡ 0
-  up-clean f x h = go (ℕ-discrete x (k - 1))
-    where
-      go : Dec (x ≡ k - 1) → getD (set a (k - 1) 0) x 0 ≡ 0
-      go (yes e) = ap (λ (i : ℕ). getD (set a (k - 1) 0) i 0) e ∙ getD-set-same a (k - 1) 0 0 (omega arith)
-      go (no e) = clean-set 0 f x (omega arith)
-
   up-sound : SoundAt t a k → SoundAt t (set a (k - 1) 0) (k - 1)
   unfolding SoundAt
-  up-sound s = (let h : k ≤ t .variables = s .0 in omega arith, up-clean (s .1), λ j h. above-set 0 (s .2) j (omega arith))
+  up-sound s = (let h : k ≤ t .variables = s .0 in omega arith, clean-up a k some fits (s .1), λ j h. above-set 0 (s .2) j (omega arith))
 
   pub next-sound : (y : ℕ) → SoundAt t a k → SoundAt t (set a (k - 1) y) k
   unfolding SoundAt
-  next-sound y s = (s .0, clean-set y (s .1), above-set y (s .2))
+  next-sound y s = (s .0, clean-next a k y some (s .1), above-set y (s .2))
 
   -- where the node has no sibling left, the walk goes up
   pub goes-up : (a₀ : List ℕ) (k₀ : ℕ) → last ≤ getD a (k - 1) 0 → Goes t a₀ k₀ a k → Goes t a₀ k₀ (set a (k - 1) 0) (k - 1)
@@ -119,10 +119,6 @@ module _ (t : Table) (s : Node) where
   ends-part e h = rw (e, ne-eqb (length s) (t .variables) h)
 
 module _ (t : Table) (sets : Sets) (fits : sets .chosen ≤ length (sets .set)) where
-  node-length : length (nodeOf sets) ≡ sets .chosen
-  unfolding nodeOf
-  node-length = length-take-le (sets .chosen) (sets .set) fits
-
   rest-dead : dead sameRole t (nodeOf sets) ≡ true → rest t sets ≡ nodeOf sets ∷ after t sets
   unfolding rest after nodeOf
   rest-dead e = remaining-dead sameRole t (sets .set) (sets .chosen) e
@@ -133,12 +129,12 @@ module _ (t : Table) (sets : Sets) (fits : sets .chosen ≤ length (sets .set)) 
   looked-dead Over to e s n = (ends-dead t (nodeOf sets) e, rest-dead e ∙ ap (λ (l : List Node). nodeOf sets ∷ l) n)
 
   pub looked-solved : dead sameRole t (nodeOf sets) ≡ false → sets .chosen ≡ t .variables → LookedAs t sets Solved sets
-  looked-solved e h = (ends-live t (nodeOf sets) e (node-length ∙ h), refl)
+  looked-solved e h = (ends-live t (nodeOf sets) e (length-node sets fits ∙ h), refl)
 
   pub looked-down : (to : Sets) → sets .chosen < length (sets .set) → sets .chosen < t .variables → 0 < 2 ^ atoms t → dead sameRole t (nodeOf sets) ≡ false
       → SoundAt t (sets .set) (sets .chosen) → to .set ≡ set (sets .set) (sets .chosen) 0 → to .chosen ≡ sets .chosen + 1 → LookedAs t sets On to
   looked-down to h l w e s p q = (
-    ends-part t (nodeOf sets) e (λ z. let y : sets .chosen ≡ t .variables = sym node-length ∙ z in omega arith),
+    ends-part t (nodeOf sets) e (λ z. let y : sets .chosen ≡ t .variables = sym (length-node sets fits) ∙ z in omega arith),
     (unfold rest nodeOf in (remaining-down sameRole t (sets .set) (sets .chosen) h l w e ∙ ap₂ (λ (a : List ℕ) (k : ℕ). take (sets .chosen) (sets .set) ∷ remaining sameRole t a k) (sym p) (sym q))),
     subst (λ (a : List ℕ). SoundAt t a (to .chosen)) (sym p) (subst (SoundAt t (set (sets .set) (sets .chosen) 0)) (sym q) down-sound),
     kin-child t sets to h w p q,
@@ -174,9 +170,6 @@ module _ {s : List ℕ} {c e v m last : ℕ} (given : Given s c e v m last) wher
   given-variables =
       let l = layout s (given .readable) in let a : tableOf s .variables ≡ byteAt s 7 = l .variables in let b : v ≡ byteAt s 7 = given .variables in
       let f : byteAt s 7 ≤ 12 = l .few-variables in (omega arith, omega arith)
-
-  pub given-some : 0 < 2 ^ atoms (tableOf s)
-  given-some = let w : 2 ^ atoms (tableOf s) ≡ last + 1 = given .width in omega arith
 
   pub given-chosen : (a : List ℕ) (k : ℕ) → SoundAt (tableOf s) a k → k ≤ v
   unfolding SoundAt
@@ -257,6 +250,13 @@ module _ (p : Node → Bool) (b n : ℕ) (more : n < b) where
 
   turn-over : (l : List Node) (s : Node) → l ≡ s ∷ [] → p s ≡ false → scan p (b - n) n l ≡ nothing (n + 1)
   turn-over l s e h = turn-on l [] s e h ∙ scan-end p (b - (n + 1)) (n + 1) [] refl
+
+-- the start, at the root
+pub walked-start : (t : Table) (b : ℕ) (sets : Sets) → sets .chosen ≡ 0 → outcome sameRole t b ≡ scan (ends sameRole t) (b - 0) 0 (rest t sets)
+unfolding rest
+walked-start t b sets e =
+    scan-means sameRole t b
+    ∙ ap₂ (λ (k : ℕ) (l : List Node). scan (ends sameRole t) k 0 l) (sym (sub-zero b)) (remaining-start sameRole t (sets .set) ∙ ap (remaining sameRole t (sets .set)) (sym e))
 
 -- the outcome, after the step that examined the node of `sets`
 module _ (t : Table) (b n : ℕ) (sets : Sets) (inv : outcome sameRole t b ≡ scan (ends sameRole t) (b - n) n (rest t sets)) where
@@ -404,21 +404,3 @@ module _ (t : Table) (v b n : ℕ) (sets : Sets) (more : n < b) (inv : outcome s
   pub gone-on : gone .going ≡ On
       → SoundAt t (gone .sets .set) (gone .sets .chosen) × Kin t (gone .sets) × (outcome sameRole t b ≡ scan (ends sameRole t) (b - (n + gone .passed)) (n + gone .passed) (rest t (gone .sets)))
   gone-on e = gone-as On e
-
--- a node on the way has a parent
-pub kin-some : (t : Table) (sets : Sets) → Kin t sets → 0 < sets .chosen
-unfolding Kin
-kin-some t sets kin = kin .0
-
--- the start, at the root
-pub walked-start : (t : Table) (b : ℕ) (sets : Sets) → sets .chosen ≡ 0 → outcome sameRole t b ≡ scan (ends sameRole t) (b - 0) 0 (rest t sets)
-unfolding rest
-walked-start t b sets e =
-    scan-means sameRole t b
-    ∙ ap₂ (λ (k : ℕ) (l : List Node). scan (ends sameRole t) k 0 l) (sym (sub-zero b)) (remaining-start sameRole t (sets .set) ∙ ap (remaining sameRole t (sets .set)) (sym e))
-
-----------------------------------------------------------------------------------------------------
--- The last set number
-
-pub power-fits : (n : ℕ) → n < 32 → 1 * 2 ^ n % 4294967296 ≡ 2 ^ n
-power-fits n h = ap (λ (k : ℕ). k % 4294967296) (one-mul (2 ^ n)) ∙ mod-eq-of-lt (pow-lt h)

@@ -5,13 +5,13 @@
 --   SoundAt t a k    == at the node (take k a) at most v variables are chosen, the others have the empty set, and no node above is dead
 --   Sound t sets     == the same of the node of `sets`
 --   Kin t to         == the node of `to` is not the root, and its newest set is one of the table's
---   Next t sets step == the step leads to what comes after the node
+--   Next t sets step == the step leads to what comes after the node; `NextAs`, by where it goes
 --   deadAt t sets    == the node is dead
---   Looked t sets step == the step examines the node and leads on
---   Advances t v sets most r == a sweep over siblings, and the step after it
+--   Looked t sets step == the step examines the node and leads on; `LookedAs`, by where it goes
+--   Advances t v sets most r == a sweep over siblings, and the step after it; `AdvancesAs`, by where it goes
 --   Given s c e v m last == s is a readable table with these counts, and `last` is its last set number
 --   BelowGiven t sets b == the first child of a live root
---   outcomeOf walked == the outcome that the walk's last state says
+--   outcomeOf walked == the outcome that the walk's last state says; `outcomeAs`, by its end
 use mathlib.Core.Path.{_≡_}
 use mathlib.Core.Bool.{Bool, true, false}
 use mathlib.Core.List.{List, [], _∷_}

@@ -1,17 +1,14 @@
 -- `level::collect` meets its contract. The invariant: of the first n lines those that pass are listed. The measure is what is left of m.
-use mathlib.Core.Path.{_≡_, refl, sym, ap, subst, _∙_}
+use mathlib.Core.Path.{_≡_, refl, sym, _∙_}
 use mathlib.Core.Logic.{⊎-elim}
-use Prim.Native.Nat.{ℕ, _-_, _≤_}
+use Prim.Native.Nat.{_-_, _≤_}
 use native.Mathlib.Omega.{arith}
-use lib.ListN.{length, length-set}
+use lib.ListN.{length}
 use Rattle.level.specs.Level.{isFresh, Listed}
 use Rattle.level.specs.LevelLaws.{listed-start, turn-more, turn-skip, listed-whole}
 use borrow.Author.Needs.{needs}
 use Rattle.level.proofs.collect.Statement.{statement}
 use Rattle.level.proofs.collect.Tie as tie
-use Rattle.level.proofs.collect.Reads as reads
-use Rattle.level.proofs.collect.Lts as lts
-use Rattle.level.proofs.passes.Reads as passes-reads
 
 abbrev Inv-loop : tie.InvT-loop
 Inv-loop mask m about near square fresh₀ few₀ n₀ fresh few n =
@@ -20,43 +17,33 @@ Inv-loop mask m about near square fresh₀ few₀ n₀ fresh few n =
 abbrev μ-loop : tie.MeasureT-loop
 μ-loop mask m about near square fresh₀ few₀ n₀ fresh few n = m - n
 
--- src/lib.rt:56:5
 loop-holds : tie.Need-loop-holds Inv-loop μ-loop
 loop-holds c = (omega arith, omega arith, refl, listed-start _ _)
 
--- src/lib.rt:57:19
 mul-passes : tie.Need-mul-passes Inv-loop μ-loop
 mul-passes c = search needs
 
--- src/lib.rt:57:19
 shared-slice-read-passes : tie.Need-shared-slice-read-passes Inv-loop μ-loop
 shared-slice-read-passes c = search needs
 
--- src/lib.rt:57:12
 passes-requires : tie.Need-passes-requires Inv-loop μ-loop
 passes-requires c κs = search needs
 
--- src/lib.rt:58:26
 cast-fresh : tie.Need-cast-fresh Inv-loop μ-loop
 cast-fresh c = search needs
 
--- src/lib.rt:58:13
 array-write-fresh : tie.Need-array-write-fresh Inv-loop μ-loop
 array-write-fresh c = search needs
 
--- src/lib.rt:59:13
 add-few : tie.Need-add-few Inv-loop μ-loop
 add-few c = search needs
 
--- src/lib.rt:61:9
 add-n : tie.Need-add-n Inv-loop μ-loop
 add-n c = search needs
 
--- src/lib.rt:56:5
 loop-less : tie.Need-loop-less Inv-loop μ-loop
 loop-less c = search needs
 
--- src/lib.rt:56:5
 loop-again : tie.Need-loop-again Inv-loop μ-loop
 unfolding isFresh
 loop-again c =
@@ -69,7 +56,6 @@ loop-again c =
     (c .if1 .came) in
     (omega arith, t .0, t .1, t .2))
 
--- src/lib.rt:49:1
 returns : tie.Need-returns Inv-loop μ-loop
 returns c = (refl, refl, listed-whole _ _ _ _ _ (c .before .loop .inv .0) (c .loop-test .left) (c .before .loop .inv .3))
 

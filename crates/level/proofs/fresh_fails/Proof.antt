@@ -1,18 +1,13 @@
 -- `level::fresh_fails` meets its contract. The invariant: none of the first i lines listed fails. The measure is what is left of them.
-use mathlib.Core.Path.{_≡_, refl, sym, ap, _∙_}
-use mathlib.Core.Bool.{false, not}
-use Prim.Native.Nat.{ℕ, _-_, _≤_}
+use mathlib.Core.Path.{_≡_}
+use mathlib.Core.Bool.{false}
+use Prim.Native.Nat.{_-_, _≤_}
 use native.Mathlib.Omega.{arith}
-use lib.ListN.{length, getD}
 use Rattle.level.specs.Level.{freshFails}
 use Rattle.level.specs.LevelLaws.{lines-start, lines-fail, lines-next, lines-whole, fresh-in, fresh-line}
 use borrow.Author.Needs.{needs}
 use Rattle.level.proofs.fresh_fails.Statement.{statement}
 use Rattle.level.proofs.fresh_fails.Tie as tie
-use Rattle.level.proofs.fresh_fails.Reads as reads
-use Rattle.level.proofs.fresh_fails.Lts as lts
-use Rattle.order.proofs.line_holds.Reads as line-holds-reads
-use Rattle.table.proofs.wide.Reads as wide-reads
 
 abbrev Inv-loop : tie.InvT-loop
 Inv-loop table start fresh few c e v set i₀ i = (i ≤ few) × (freshFails table set fresh i ≡ false)
@@ -20,47 +15,36 @@ Inv-loop table start fresh few c e v set i₀ i = (i ≤ few) × (freshFails tab
 abbrev μ-loop : tie.MeasureT-loop
 μ-loop table start fresh few c e v set i₀ i = few - i
 
--- src/lib.rt:119:5
 loop-holds : tie.Need-loop-holds Inv-loop μ-loop
 loop-holds c = (omega arith, lines-start _ _ _)
 
--- src/lib.rt:120:29
 shared-slice-read-wide : tie.Need-shared-slice-read-wide Inv-loop μ-loop
 shared-slice-read-wide c = (let f = c .before .before .before .before .before .before .before .pre .few-fit in let k = c .before .loop-test .taken in omega arith)
 
--- src/lib.rt:120:13
 wide-requires : tie.Need-wide-requires Inv-loop μ-loop
 wide-requires c κs = search needs
 
--- src/lib.rt:121:55
 mul-line-holds : tie.Need-mul-line-holds Inv-loop μ-loop
 mul-line-holds c = (let h = fresh-in _ _ _ _ _ _ _ _ (c .before .before .before .before .before .before .before .before .pre) _ _ (c .before .before .loop-test .taken) (c .wide .ensures) in search needs)
 
--- src/lib.rt:121:55
 shared-slice-read-line-holds : tie.Need-shared-slice-read-line-holds Inv-loop μ-loop
 shared-slice-read-line-holds c = fresh-in _ _ _ _ _ _ _ _ (c .before .before .before .before .before .before .before .before .before .pre) _ _ (c .before .before .before .loop-test .taken) (c .before .wide .ensures)
 
--- src/lib.rt:121:13
 line-holds-requires : tie.Need-line-holds-requires Inv-loop μ-loop
 line-holds-requires c κs = fresh-line _ _ _ _ _ _ _ _ (c .before .before .before .before .before .before .before .before .before .pre) _ _ (c .before .before .before .loop-test .taken) (c .before .wide .ensures)
 
--- src/lib.rt:122:13
 returns : tie.Need-returns Inv-loop μ-loop
 returns c = lines-fail _ _ _ _ _ (c .before .before .before .wide .ensures) _ (c .before .line-holds .ensures) _ (c .before .before .before .before .before .loop-test .taken) (c .if1 .taken)
 
--- src/lib.rt:124:9
 add-i : tie.Need-add-i Inv-loop μ-loop
 add-i c = search needs
 
--- src/lib.rt:119:5
 loop-less : tie.Need-loop-less Inv-loop μ-loop
 loop-less c = search needs
 
--- src/lib.rt:119:5
 loop-again : tie.Need-loop-again Inv-loop μ-loop
 loop-again c = (omega arith, lines-next _ _ _ _ _ (c .before .before .before .wide .ensures) _ (c .before .line-holds .ensures) (c .if1 .left) (c .before .before .before .before .before .before .loop .inv .1))
 
--- src/lib.rt:105:1
 returns-2 : tie.Need-returns-2 Inv-loop μ-loop
 returns-2 c = lines-whole _ _ _ _ _ (c .before .loop .inv .0) (c .loop-test .left) (c .before .loop .inv .1)
 

@@ -1,19 +1,16 @@
 -- `level::newly_mask` meets its contract. The invariant: the mask has what the first z variables lead to. The measure is what is left of n.
-use mathlib.Core.Path.{_≡_, ap, _∙_}
+use mathlib.Core.Path.{ap, _∙_}
 use mathlib.Core.Logic.{⊎-elim}
-use Prim.Native.Nat.{ℕ, _-_, _≤_}
+use Prim.Native.Nat.{_-_, _≤_}
 use native.Mathlib.Omega.{arith}
-use lib.ListN.{length}
 use Rattle.el.specs.Test.{bit}
 use Rattle.node.specs.Node.{Masks}
-use Rattle.node.specs.MaskLaws.{bit-is, bit-is-not}
+use Rattle.order.specs.BitLaws.{bit-on, bit-off}
 use Rattle.level.specs.Level.{newBy}
 use Rattle.level.specs.LevelLaws.{new-start, new-more, new-skip, new-empty, new-whole}
 use borrow.Author.Needs.{needs}
 use Rattle.level.proofs.newly_mask.Statement.{statement}
 use Rattle.level.proofs.newly_mask.Tie as tie
-use Rattle.level.proofs.newly_mask.Reads as reads
-use Rattle.level.proofs.newly_mask.Lts as lts
 
 abbrev Inv-loop : tie.InvT-loop
 Inv-loop row n direct mask₀ z₀ mask z = (z ≤ n) × Masks (newBy row direct z) mask
@@ -21,49 +18,39 @@ Inv-loop row n direct mask₀ z₀ mask z = (z ≤ n) × Masks (newBy row direct
 abbrev μ-loop : tie.MeasureT-loop
 μ-loop row n direct mask₀ z₀ mask z = n - z
 
--- src/lib.rt:38:9
 returns : tie.Need-returns Inv-loop μ-loop
 returns c = new-empty _ _ _ (c .if1 .taken)
 
--- src/lib.rt:42:5
 loop-holds : tie.Need-loop-holds Inv-loop μ-loop
 loop-holds c = (omega arith, new-start _ _)
 
--- src/lib.rt:43:23
 cast-if2 : tie.Need-cast-if2 Inv-loop μ-loop
 cast-if2 c = search needs
 
--- src/lib.rt:43:13
 shr-if2 : tie.Need-shr-if2 Inv-loop μ-loop
 shr-if2 c = search needs
 
--- src/lib.rt:44:27
 mul-mask : tie.Need-mul-mask Inv-loop μ-loop
 mul-mask c = search needs
 
--- src/lib.rt:44:27
 shared-slice-read-mask : tie.Need-shared-slice-read-mask Inv-loop μ-loop
 shared-slice-read-mask c = search needs
 
--- src/lib.rt:46:9
 add-z : tie.Need-add-z Inv-loop μ-loop
 add-z c = search needs
 
--- src/lib.rt:42:5
 loop-less : tie.Need-loop-less Inv-loop μ-loop
 loop-less c = search needs
 
--- src/lib.rt:42:5
 loop-again : tie.Need-loop-again Inv-loop μ-loop
 loop-again c = (
   omega arith,
   λ y. ⊎-elim
-      (λ w. ap (bit y) (w .2) ∙ new-more _ _ _ _ (bit-is _ _ (w .0 .taken)) (c .before .before .loop .inv .1) y)
-      (λ w. ap (bit y) (w .1) ∙ new-skip _ _ _ _ (bit-is-not _ _ (w .0 .left)) (c .before .before .loop .inv .1) y)
+      (λ w. ap (bit y) (w .2) ∙ new-more _ _ _ _ (bit-on _ _ (w .0 .taken)) (c .before .before .loop .inv .1) y)
+      (λ w. ap (bit y) (w .1) ∙ new-skip _ _ _ _ (bit-off _ _ (w .0 .left)) (c .before .before .loop .inv .1) y)
       (c .if2 .came),
 )
 
--- src/lib.rt:33:1
 returns-2 : tie.Need-returns-2 Inv-loop μ-loop
 returns-2 c = new-whole _ _ _ _ _ (c .before .loop .inv .0) (c .loop-test .left) (c .before .loop .inv .1)
 

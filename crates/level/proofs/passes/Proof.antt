@@ -2,14 +2,10 @@
 use Rattle.level.specs.LevelLaws.{fresh-none, fresh-some}
 use Rattle.level.proofs.passes.Statement.{statement}
 use Rattle.level.proofs.passes.Tie as tie
-use Rattle.level.proofs.passes.Reads as reads
-use Rattle.level.proofs.passes.Lts as lts
 
--- src/lib.rt:43:9
 returns : tie.Need-returns
 returns c = fresh-none _ _ _ (c .if1 .taken)
 
--- src/lib.rt:39:1
 returns-2 : tie.Need-returns-2
 returns-2 c = fresh-some _ _ _ (c .if1 .left)
 

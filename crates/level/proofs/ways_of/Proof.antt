@@ -1,18 +1,13 @@
 -- `level::ways_of` meets its contract. The invariant: the atoms of the first k restrictions are marked. The measure is what is left of them.
-use mathlib.Core.Path.{_≡_, refl}
-use Prim.Native.Nat.{ℕ, _+_, _-_, _≤_, _<_}
+use mathlib.Core.Path.{refl}
+use Prim.Native.Nat.{_-_, _≤_}
 use native.Mathlib.Omega.{arith}
-use lib.ListN.{length}
 use Rattle.el.specs.Test.{bit}
 use Rattle.level.specs.Level.{Back, Out, WaysTo}
 use Rattle.level.specs.LevelLaws.{ways-start, ways-more, ways-whole, back-some, back-all, out-some, out-all}
 use borrow.Author.Needs.{needs}
 use Rattle.level.proofs.ways_of.Statement.{statement}
 use Rattle.level.proofs.ways_of.Tie as tie
-use Rattle.level.proofs.ways_of.Reads as reads
-use Rattle.level.proofs.ways_of.Lts as lts
-use Rattle.level.proofs.newly_mask.Reads as newly-mask-reads
-use Rattle.level.proofs.with_bit.Reads as with-bit-reads
 
 abbrev Inv-loop : tie.InvT-loop
 Inv-loop fill c e y row turning₀ leaving₀ k₀ turning leaving k = (k ≤ e) × WaysTo (Back y) fill row c y k turning × WaysTo (Out y) fill row c y k leaving
@@ -20,71 +15,54 @@ Inv-loop fill c e y row turning₀ leaving₀ k₀ turning leaving k = (k ≤ e)
 abbrev μ-loop : tie.MeasureT-loop
 μ-loop fill c e y row turning₀ leaving₀ k₀ turning leaving k = e - k
 
--- src/lib.rt:70:5
 loop-holds : tie.Need-loop-holds Inv-loop μ-loop
 loop-holds c = (omega arith, ways-start _ _ _ _ _, ways-start _ _ _ _ _)
 
--- src/lib.rt:71:32
 slice-aggregate-newly-mask : tie.Need-slice-aggregate-newly-mask Inv-loop μ-loop
 slice-aggregate-newly-mask c = search needs
 
--- src/lib.rt:71:41
 mul-newly-mask : tie.Need-mul-newly-mask Inv-loop μ-loop
 mul-newly-mask c = search needs
 
--- src/lib.rt:71:41
 shared-slice-read-newly-mask : tie.Need-shared-slice-read-newly-mask Inv-loop μ-loop
 shared-slice-read-newly-mask c = search needs
 
--- src/lib.rt:71:13
 newly-mask-requires : tie.Need-newly-mask-requires Inv-loop μ-loop
 newly-mask-requires c κs = (omega arith, search needs)
 
--- src/lib.rt:72:37
 add-with-bit : tie.Need-add-with-bit Inv-loop μ-loop
 add-with-bit c = search needs
 
--- src/lib.rt:72:54
 cast-with-bit : tie.Need-cast-with-bit Inv-loop μ-loop
 cast-with-bit c = search needs
 
--- src/lib.rt:72:45
 shr-with-bit : tie.Need-shr-with-bit Inv-loop μ-loop
 shr-with-bit c = search needs
 
--- src/lib.rt:72:9
 with-bit-requires : tie.Need-with-bit-requires Inv-loop μ-loop
 with-bit-requires c κs = search needs
 
--- src/lib.rt:73:37
 add-with-bit-2 : tie.Need-add-with-bit-2 Inv-loop μ-loop
 add-with-bit-2 c = search needs
 
--- src/lib.rt:73:55
 add-with-bit-3 : tie.Need-add-with-bit-3 Inv-loop μ-loop
 add-with-bit-3 c = search needs
 
--- src/lib.rt:73:55
 cast-with-bit-2 : tie.Need-cast-with-bit-2 Inv-loop μ-loop
 cast-with-bit-2 c = search needs
 
--- src/lib.rt:73:45
 shr-with-bit-2 : tie.Need-shr-with-bit-2 Inv-loop μ-loop
 shr-with-bit-2 c = search needs
 
--- src/lib.rt:73:9
 with-bit-requires-2 : tie.Need-with-bit-requires-2 Inv-loop μ-loop
 with-bit-requires-2 c κs = search needs
 
--- src/lib.rt:74:9
 add-k : tie.Need-add-k Inv-loop μ-loop
 add-k c = search needs
 
--- src/lib.rt:70:5
 loop-less : tie.Need-loop-less Inv-loop μ-loop
 loop-less c = search needs
 
--- src/lib.rt:70:5
 loop-again : tie.Need-loop-again Inv-loop μ-loop
 unfolding bit
 loop-again c =
@@ -94,7 +72,6 @@ loop-again c =
       ways-more (Out _) _ _ _ _ (l .k) (c .before .before .newly-mask .result) _ _ _ (c .before .before .newly-mask .ensures) (out-some _ _ _ refl) (out-all _ _ _ refl) (c .with-bit2 .ensures) (l .inv .2),
     ))
 
--- src/lib.rt:62:1
 returns : tie.Need-returns Inv-loop μ-loop
 returns c = (let l = c .before .loop in let h = c .loop-test .left in (ways-whole _ _ _ _ _ _ _ _ (l .inv .0) h (l .inv .1), ways-whole _ _ _ _ _ _ _ _ (l .inv .0) h (l .inv .2)))
 

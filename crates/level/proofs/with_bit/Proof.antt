@@ -3,22 +3,16 @@ use Rattle.level.specs.LevelLaws.{bit-added, bit-kept}
 use borrow.Author.Needs.{needs}
 use Rattle.level.proofs.with_bit.Statement.{statement}
 use Rattle.level.proofs.with_bit.Tie as tie
-use Rattle.level.proofs.with_bit.Reads as reads
-use Rattle.level.proofs.with_bit.Lts as lts
 
--- src/lib.rt:56:32
 cast-result : tie.Need-cast-result
 cast-result c = search needs
 
--- src/lib.rt:56:24
 shl-result : tie.Need-shl-result
 shl-result c = search needs
 
--- src/lib.rt:56:9
 returns : tie.Need-returns
 returns c = λ q is. bit-added q _ _ _ is (c .before .pre) (c .if1 .taken)
 
--- src/lib.rt:51:1
 returns-2 : tie.Need-returns-2
 returns-2 c = λ q is. bit-kept q _ _ _ is (c .if1 .left)
 

@@ -5,41 +5,30 @@ use Rattle.makrothel.specs.Solve.{answered}
 use Rattle.makrothel.proofs.Laws.{finish-found, finish-nothing, finish-spent}
 use Rattle.makrothel.proofs.finish.Statement.{statement}
 use Rattle.makrothel.proofs.finish.Tie as tie
-use Rattle.makrothel.proofs.finish.Reads as reads
-use Rattle.makrothel.proofs.finish.Lts as lts
-use Rattle.output.proofs.put_all.Reads as put-all-reads
 
--- src/lib.rt:90:17
 enum-told : tie.Need-enum-told
 enum-told c = search needs
 
--- src/lib.rt:93:13
 put-all-requires : tie.Need-put-all-requires
 put-all-requires c κs = search needs
 
--- src/lib.rt:100:25
 enum-told-2 : tie.Need-enum-told-2
 enum-told-2 c = search needs
 
--- src/lib.rt:105:23
 enum-told-3 : tie.Need-enum-told-3
 enum-told-3 c = search needs
 
--- src/lib.rt:82:1
 same-length : tie.Need-same-length
 same-length c = search needs
 
--- src/lib.rt:82:1
 returns-2 : tie.Need-returns-2
 unfolding answered step.outcomeOf
 returns-2 c = finish-nothing _ _ (c .enum-told2 .given .1)
 
--- src/lib.rt:82:1
 returns-3 : tie.Need-returns-3
 unfolding answered step.outcomeOf
 returns-3 c = finish-spent _ _ (c .enum-told3 .given .1)
 
--- src/lib.rt:82:1
 returns : tie.Need-returns
 unfolding answered
 returns c = finish-found (c .before .before .before .before .before .before .before .before .before .args .walked) _ _ (c .before .before .before .before .before .before .enum-told .given .1) (c .before .before .put-all .ensures)

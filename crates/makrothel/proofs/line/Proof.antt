@@ -2,7 +2,8 @@
 use mathlib.Core.Path.{sym, _∙_}
 use native.Mathlib.Omega.{arith}
 use borrow.Author.Needs.{needs}
-use Rattle.makrothel.proofs.Laws.{readable-is, header-there, line-refused, line-over, line-room, line-there}
+use Rattle.table.specs.LayoutLaws.{readable-is}
+use Rattle.makrothel.proofs.Laws.{header-there, line-refused, line-over, line-room, line-there}
 use Rattle.makrothel.proofs.line.Statement.{statement}
 use Rattle.makrothel.proofs.line.Tie as tie
 

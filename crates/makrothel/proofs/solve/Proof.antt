@@ -1,29 +1,20 @@
 -- `makrothel::solve` meets its contract: refused, too short, or walked.
 use borrow.Author.Needs.{needs}
-use mathlib.Core.Path.{_≡_, sym, ap, _∙_}
+use mathlib.Core.Path.{sym, ap, _∙_}
 use native.Mathlib.Omega.{arith}
 use Rattle.el.specs.Walk.{Outcome}
-use Rattle.table.specs.LayoutLaws.{layout}
+use Rattle.table.specs.LayoutLaws.{layout, readable-is}
 use Rattle.makrothel.specs.Solve.{answered, outcomeAs}
-use Rattle.makrothel.proofs.Laws.{readable-is, header-there, solve-refused, solve-short, solve-walked}
+use Rattle.makrothel.proofs.Laws.{header-there, solve-refused, solve-short, solve-walked}
 use Rattle.makrothel.proofs.solve.Statement.{statement}
 use Rattle.makrothel.proofs.solve.Tie as tie
-use Rattle.makrothel.proofs.solve.Reads as reads
-use Rattle.makrothel.proofs.solve.Lts as lts
-use Rattle.makrothel.proofs.finish.Reads as finish-reads
-use Rattle.table.proofs.check.Reads as check-reads
-use Rattle.table.proofs.wide.Reads as wide-reads
-use Rattle.walk.proofs.walk.Reads as walk-reads
 
--- src/lib.rt:117:11
 check-requires : tie.Need-check-requires
 check-requires c κs = search needs
 
--- src/lib.rt:118:26
 enum-known-number : tie.Need-enum-known-number
 enum-known-number c = search needs
 
--- src/lib.rt:119:13
 returns : tie.Need-returns
 unfolding answered
 returns c = solve-refused _ _ _ _ _ (sym (c .before .before .before .check .ensures) ∙ c .before .number .given .1)
@@ -31,28 +22,22 @@ returns c = solve-refused _ _ _ _ _ (sym (c .before .before .before .check .ensu
 enum-told : tie.Need-enum-told
 enum-told c = search needs
 
--- src/lib.rt:127:34
 shared-slice-read-wide : tie.Need-shared-slice-read-wide
 shared-slice-read-wide c = omega (arith, header-there _ (sym (c .before .before .before .check .ensures) ∙ c .before .enum-told .given .1))
 
--- src/lib.rt:127:22
 wide-requires : tie.Need-wide-requires
 wide-requires c κs = search needs
 
--- src/lib.rt:127:18
 mul-needed : tie.Need-mul-needed
 mul-needed c = omega (arith, layout _ (readable-is _ (sym (c .before .before .before .before .check .ensures) ∙ c .before .before .enum-told .given .1)) .few-variables)
 
--- src/lib.rt:129:9
 returns-2 : tie.Need-returns-2
 unfolding answered
 returns-2 c = solve-short _ _ _ (c .before .wide .result) (c .before .wide .ensures) (sym (c .before .before .before .before .before .check .ensures) ∙ c .before .before .before .enum-told .given .1) (c .if1 .taken)
 
--- src/lib.rt:135:12
 walk-requires : tie.Need-walk-requires
 walk-requires c κs = readable-is _ (sym (c .before .before .before .before .before .check .ensures) ∙ c .before .before .before .enum-told .given .1)
 
--- src/lib.rt:135:5
 finish-requires : tie.Need-finish-requires
 finish-requires c κs =
     (let few = layout _ (readable-is _ (sym (c .before .before .before .before .before .before .before .check .ensures) ∙ c .before .before .before .before .before .enum-told .given .1)) .few-variables in
@@ -60,11 +45,9 @@ finish-requires c κs =
     let k = c .before .walk .ensures .1 in
     (omega arith, omega arith))
 
--- src/lib.rt:114:1
 same-length : tie.Need-same-length
 same-length c = search needs
 
--- src/lib.rt:114:1
 returns-3 : tie.Need-returns-3
 returns-3 c =
     (c .before .before .finish .ensures ∙ ap (λ (o : Outcome). outcomeAs o (c .before .before .before .before .before .before .before .before .before .before .before .before .before .args .out .now)) (c .before .before .before .before .walk .ensures .0)

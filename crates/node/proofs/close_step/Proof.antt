@@ -6,7 +6,7 @@ use native.Mathlib.Omega.{arith}
 use borrow.Author.Needs.{needs}
 use lib.ListN.{length, length-set}
 use Rattle.node.specs.SquareLaws.{Closing, closing-start, closing-whole, closing-more, closing-skip, closes-nowhere}
-use Rattle.node.specs.MaskLaws.{bit-is, bit-is-not}
+use Rattle.order.specs.BitLaws.{bit-on, bit-off}
 use Rattle.node.proofs.close_step.Statement.{statement}
 use Rattle.node.proofs.close_step.Tie as tie
 
@@ -63,8 +63,8 @@ loop-again c = (
   omega arith,
   ⊎-elim (λ w. ap length (w .1) ∙ simp length-set (c .before .before .loop .inv .1)) (λ w. ap length (w .1) ∙ c .before .before .loop .inv .1) (c .if2 .came),
   ⊎-elim
-      (λ w. subst (Closing _ _ _ _) (sym (w .1)) (closing-more _ _ _ _ _ (omega arith) (omega arith) (c .before .before .loop .inv .2) (omega arith) (bit-is _ _ (w .0 .taken))))
-      (λ w. subst (Closing _ _ _ _) (sym (w .1)) (closing-skip _ _ _ _ _ (omega arith) (omega arith) (c .before .before .loop .inv .2) (bit-is-not _ _ (w .0 .left))))
+      (λ w. subst (Closing _ _ _ _) (sym (w .1)) (closing-more _ _ _ _ _ (omega arith) (omega arith) (c .before .before .loop .inv .2) (omega arith) (bit-on _ _ (w .0 .taken))))
+      (λ w. subst (Closing _ _ _ _) (sym (w .1)) (closing-skip _ _ _ _ _ (omega arith) (omega arith) (c .before .before .loop .inv .2) (bit-off _ _ (w .0 .left))))
       (c .if2 .came),
 )
 

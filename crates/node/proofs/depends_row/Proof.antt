@@ -7,7 +7,7 @@ use borrow.Author.Needs.{needs}
 use Rattle.el.specs.Test.{bit}
 use Rattle.node.specs.SquareLaws.{depends-start, depends-more, depends-skip, depends-whole}
 use Rattle.node.specs.Node.{Masks, dependsBy}
-use Rattle.node.specs.MaskLaws.{bit-is, bit-is-not}
+use Rattle.order.specs.BitLaws.{bit-on, bit-off}
 use Rattle.node.proofs.depends_row.Statement.{statement}
 use Rattle.node.proofs.depends_row.Tie as tie
 
@@ -45,8 +45,8 @@ loop-again : tie.Need-loop-again Inv-loop μ-loop
 loop-again c = (
   omega arith,
   λ y. ⊎-elim
-      (λ w. ap (bit y) (w .2) ∙ depends-more _ _ _ _ _ (c .before .before .loop .inv .1) (bit-is _ _ (w .0 .taken)) y)
-      (λ w. ap (bit y) (w .1) ∙ depends-skip _ _ _ _ _ (c .before .before .loop .inv .1) (bit-is-not _ _ (w .0 .left)) y)
+      (λ w. ap (bit y) (w .2) ∙ depends-more _ _ _ _ _ (c .before .before .loop .inv .1) (bit-on _ _ (w .0 .taken)) y)
+      (λ w. ap (bit y) (w .1) ∙ depends-skip _ _ _ _ _ (c .before .before .loop .inv .1) (bit-off _ _ (w .0 .left)) y)
       (c .if1 .came),
 )
 

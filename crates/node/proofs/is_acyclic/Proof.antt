@@ -6,7 +6,7 @@ use native.Mathlib.Omega.{arith}
 use borrow.Author.Needs.{needs}
 use lib.ListN.{length}
 use Rattle.node.specs.Node.{noCycle}
-use Rattle.node.specs.MaskLaws.{bit-is, bit-is-not}
+use Rattle.order.specs.BitLaws.{bit-on, bit-off}
 use Rattle.node.specs.SquareLaws.{no-cycle-start, no-cycle-more, no-cycle-whole, no-cycle-not}
 use Rattle.node.proofs.is_acyclic.Statement.{statement}
 use Rattle.node.proofs.is_acyclic.Tie as tie
@@ -33,7 +33,7 @@ shr-if1 : tie.Need-shr-if1 Inv-loop μ-loop
 shr-if1 c = search needs
 
 returns : tie.Need-returns Inv-loop μ-loop
-returns c = sym (no-cycle-not _ _ _ (omega arith) (bit-is _ _ (c .if1 .taken)))
+returns c = sym (no-cycle-not _ _ _ (omega arith) (bit-on _ _ (c .if1 .taken)))
 
 add-x : tie.Need-add-x Inv-loop μ-loop
 add-x c = search needs
@@ -42,7 +42,7 @@ loop-less : tie.Need-loop-less Inv-loop μ-loop
 loop-less c = search needs
 
 loop-again : tie.Need-loop-again Inv-loop μ-loop
-loop-again c = (omega arith, search needs, no-cycle-more _ _ (c .before .before .loop .inv .2) (bit-is-not _ _ (c .if1 .left)))
+loop-again c = (omega arith, search needs, no-cycle-more _ _ (c .before .before .loop .inv .2) (bit-off _ _ (c .if1 .left)))
 
 returns-2 : tie.Need-returns-2 Inv-loop μ-loop
 returns-2 c = sym (no-cycle-whole _ _ _ (c .before .loop .inv .0) (c .loop-test .left) (c .before .loop .inv .2))

@@ -8,7 +8,7 @@ use lib.ListN.{length}
 use Rattle.el.specs.Test.{bit}
 use Rattle.node.specs.ReadyLaws.{leads-start, leads-more, leads-skip, leads-whole}
 use Rattle.node.specs.Node.{Masks, leadsBy}
-use Rattle.node.specs.MaskLaws.{bit-is, bit-is-not}
+use Rattle.order.specs.BitLaws.{bit-on, bit-off}
 use Rattle.node.proofs.leads_mask.Statement.{statement}
 use Rattle.node.proofs.leads_mask.Tie as tie
 
@@ -50,8 +50,8 @@ loop-again c = (
   omega arith,
   search needs,
   λ y. ⊎-elim
-      (λ w. ap (bit y) (w .1) ∙ leads-more _ _ _ _ (c .before .before .loop .inv .2) (omega arith) (bit-is _ _ (w .0 .taken)) y)
-      (λ w. ap (bit y) (w .1) ∙ leads-skip _ _ _ _ (c .before .before .loop .inv .2) (bit-is-not _ _ (w .0 .left)) y)
+      (λ w. ap (bit y) (w .1) ∙ leads-more _ _ _ _ (c .before .before .loop .inv .2) (omega arith) (bit-on _ _ (w .0 .taken)) y)
+      (λ w. ap (bit y) (w .1) ∙ leads-skip _ _ _ _ (c .before .before .loop .inv .2) (bit-off _ _ (w .0 .left)) y)
       (c .if1 .came),
 )
 

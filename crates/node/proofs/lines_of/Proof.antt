@@ -6,7 +6,8 @@ use borrow.Author.Needs.{needs}
 use lib.ListN.{length, length-set}
 use Rattle.table.specs.Layout.{lineStart}
 use Rattle.table.specs.Reading.{tableOf}
-use Rattle.node.specs.LineLaws.{lines-none, lines-more, lines-whole, starts-none, starts-more, starts-whole, start-first, start-next, line-lies, line-start, in-lines}
+use Rattle.table.specs.LayoutLaws.{start-first, start-next}
+use Rattle.node.specs.LineLaws.{lines-none, lines-more, lines-whole, starts-none, starts-more, starts-whole, line-lies, line-start, in-lines}
 use Rattle.node.specs.Node.{LineMasks, LineStarts}
 use Rattle.node.proofs.lines_of.Statement.{statement}
 use Rattle.node.proofs.lines_of.Tie as tie

@@ -9,7 +9,8 @@ use borrow.Author.Needs.{needs}
 use borrow.Author.Tests.{not-true, not-false}
 use Rattle.el.specs.Test.{anyBelow, allBelow}
 use Rattle.el.specs.TestLaws.{anyBelow-step, anyBelow-true-at, allBelow-step, allBelow-false-at}
-use Rattle.order.proofs.Laws.{bit-on, bit-off, any-start, any-end, all-end, row-filler, atom-filler-code, RowAsk, row-off, row-other, row-false, row-true, rows-rest, set-constant, set-rows, AtomAsk, atom-off, atom-true, atom-false, atoms-rest, constants-missing, constants-there, filler-flat, filler-atoms}
+use Rattle.order.specs.BitLaws.{bit-on, bit-off}
+use Rattle.order.proofs.Laws.{any-start, any-end, all-end, row-filler, atom-filler-code, RowAsk, row-off, row-other, row-false, row-true, rows-rest, set-constant, set-rows, AtomAsk, atom-off, atom-true, atom-false, atoms-rest, constants-missing, constants-there, filler-flat, filler-atoms}
 use borrow.Fn.Kinds.{In}
 use borrow.Fn.PlainCycle.{Measures, is, falls, and}
 use Rattle.order.proofs.filler_below.Reads as filler-below

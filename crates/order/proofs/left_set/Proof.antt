@@ -6,7 +6,8 @@ use borrow.Author.Needs.{needs}
 use Rattle.table.specs.Reading.{tableOf}
 use Rattle.table.specs.Layout.{lineAt}
 use Rattle.order.specs.Rule.{unionTo}
-use Rattle.order.proofs.Laws.{line-inside, left-entry, left-start, left-step, left-whole}
+use Rattle.table.specs.LayoutLaws.{line-inside}
+use Rattle.order.proofs.Laws.{left-entry, left-start, left-step, left-whole}
 use Rattle.order.proofs.left_set.Statement.{statement}
 use Rattle.order.proofs.left_set.Tie as tie
 

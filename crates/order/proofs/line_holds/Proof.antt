@@ -9,7 +9,9 @@ use borrow.Author.Needs.{needs}
 use borrow.Author.Tests.{not-true, not-false}
 use Rattle.el.specs.Test.{allBelow}
 use Rattle.el.specs.TestLaws.{allBelow-step, allBelow-false-at}
-use Rattle.order.proofs.Laws.{bit-on, bit-off, all-end, few-atoms, given, line-inside, right-entry, AtomAsk, atom-off, atom-true, atom-false, atoms-rest, constants-missing, constants-there, line-atoms}
+use Rattle.table.specs.LayoutLaws.{line-inside}
+use Rattle.order.specs.BitLaws.{bit-on, bit-off}
+use Rattle.order.proofs.Laws.{all-end, few-atoms, given, right-entry, AtomAsk, atom-off, atom-true, atom-false, atoms-rest, constants-missing, constants-there, line-atoms}
 use Rattle.order.proofs.line_holds.Statement.{statement}
 use Rattle.order.proofs.line_holds.Tie as tie
 

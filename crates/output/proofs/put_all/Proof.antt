@@ -9,9 +9,6 @@ use Rattle.output.specs.Written.{written}
 use Rattle.output.proofs.Laws.{written-length, written-none, turn, part-room}
 use Rattle.output.proofs.put_all.Statement.{statement}
 use Rattle.output.proofs.put_all.Tie as tie
-use Rattle.output.proofs.put_all.Reads as reads
-use Rattle.output.proofs.put_all.Lts as lts
-use Rattle.output.proofs.put_set.Reads as put-set-reads
 
 abbrev Inv-loop : tie.InvT-loop
 Inv-loop out₀ n set i₀ out i = (i ≤ n) × (length out ≡ length out₀) × (out ≡ written (take i set) out₀)
@@ -19,43 +16,33 @@ Inv-loop out₀ n set i₀ out i = (i ≤ n) × (length out ≡ length out₀) �
 abbrev μ-loop : tie.MeasureT-loop
 μ-loop out₀ n set i₀ out i = n - i
 
--- src/lib.rt:25:5
 loop-holds : tie.Need-loop-holds Inv-loop μ-loop
 loop-holds c = (omega arith, refl, sym (written-none (c .before .args .t2) _))
 
--- src/lib.rt:26:18
 mul-at : tie.Need-mul-at Inv-loop μ-loop
 mul-at c = search needs
 
--- src/lib.rt:27:17
 mul-x : tie.Need-mul-x Inv-loop μ-loop
 mul-x c = search needs
 
--- src/lib.rt:27:17
 array-read-x : tie.Need-array-read-x Inv-loop μ-loop
 array-read-x c = search needs
 
--- src/lib.rt:28:17
 sub-put-set : tie.Need-sub-put-set Inv-loop μ-loop
 sub-put-set c = search needs
 
--- src/lib.rt:28:17
 part-put-set-start : tie.Need-part-put-set-start Inv-loop μ-loop
 part-put-set-start c = search needs
 
--- src/lib.rt:28:17
 part-put-set-end : tie.Need-part-put-set-end Inv-loop μ-loop
 part-put-set-end c = search needs
 
--- src/lib.rt:29:9
 add-i : tie.Need-add-i Inv-loop μ-loop
 add-i c = search needs
 
--- src/lib.rt:25:5
 loop-less : tie.Need-loop-less Inv-loop μ-loop
 loop-less c = search needs
 
--- src/lib.rt:25:5
 loop-again : tie.Need-loop-again Inv-loop μ-loop
 loop-again c =
     (let l = c .before .before .before .before .before .loop in
@@ -65,15 +52,12 @@ loop-again c =
     let k : length (take (l .i + 1) (a .t2)) ≡ l .i + 1 = length-take-le (l .i + 1) (a .t2) (omega arith) in
     (omega arith, ap length e ∙ written-length (take (l .i + 1) (a .t2)) (a .out .now) (omega arith), e))
 
--- src/lib.rt:28:9
 put-set-requires : tie.Need-put-set-requires Inv-loop μ-loop
 put-set-requires c κs = part-room (4 * c .before .before .loop .i) (c .before .before .loop .out) (omega arith)
 
--- src/lib.rt:20:1
 same-length : tie.Need-same-length Inv-loop μ-loop
 same-length c = c .before .loop .inv .1
 
--- src/lib.rt:20:1
 returns : tie.Need-returns Inv-loop μ-loop
 returns c =
     (let a = c .before .before .before .args in

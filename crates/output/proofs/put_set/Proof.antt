@@ -5,46 +5,34 @@ use lib.ListN.{length-set}
 use Rattle.output.proofs.Laws.{put-four}
 use Rattle.output.proofs.put_set.Statement.{statement}
 use Rattle.output.proofs.put_set.Tie as tie
-use Rattle.output.proofs.put_set.Reads as reads
-use Rattle.output.proofs.put_set.Lts as lts
 
--- src/lib.rt:13:15
 cast-part : tie.Need-cast-part
 cast-part c = search needs
 
--- src/lib.rt:13:5
 slice-write-part : tie.Need-slice-write-part
 slice-write-part c = search needs
 
--- src/lib.rt:14:15
 cast-part-2 : tie.Need-cast-part-2
 cast-part-2 c = search needs
 
--- src/lib.rt:14:5
 slice-write-part-2 : tie.Need-slice-write-part-2
 slice-write-part-2 c = simp length-set (omega arith)
 
--- src/lib.rt:15:15
 cast-part-3 : tie.Need-cast-part-3
 cast-part-3 c = search needs
 
--- src/lib.rt:15:5
 slice-write-part-3 : tie.Need-slice-write-part-3
 slice-write-part-3 c = simp length-set (omega arith)
 
--- src/lib.rt:16:15
 cast-part-4 : tie.Need-cast-part-4
 cast-part-4 c = search needs
 
--- src/lib.rt:16:5
 slice-write-part-4 : tie.Need-slice-write-part-4
 slice-write-part-4 c = search needs
 
--- src/lib.rt:9:1
 same-length : tie.Need-same-length
 same-length c = search needs
 
--- src/lib.rt:9:1
 returns : tie.Need-returns
 returns c = put-four (c .args .part .now) _ _ _ _ (omega arith)
 

@@ -5,7 +5,7 @@ use Prim.Native.Nat.{_-_, _≤_}
 use native.Mathlib.Omega.{arith}
 use borrow.Author.Needs.{needs}
 use Rattle.table.specs.Layout.{lineStart}
-use Rattle.table.proofs.Laws.{header-there, start-first, start-room, start-next}
+use Rattle.table.specs.LayoutLaws.{layout, start-first, start-next, line-inside}
 use Rattle.table.proofs.line_start.Statement.{statement}
 use Rattle.table.proofs.line_start.Tie as tie
 
@@ -16,7 +16,7 @@ abbrev μ-loop : tie.MeasureT-loop
 μ-loop table n at₀ i₀ at i = n - i
 
 shared-slice-read-wide : tie.Need-shared-slice-read-wide Inv-loop μ-loop
-shared-slice-read-wide c = omega (arith, header-there _ (c .before .before .pre .0))
+shared-slice-read-wide c = omega (arith, layout _ (c .before .before .pre .0) .header-in)
 
 wide-requires : tie.Need-wide-requires Inv-loop μ-loop
 wide-requires c κs = search needs
@@ -28,19 +28,19 @@ add-at : tie.Need-add-at Inv-loop μ-loop
 add-at c = omega (arith, c .before .shared-slice-known2 .given 8)
 
 loop-holds : tie.Need-loop-holds Inv-loop μ-loop
-loop-holds c = (omega arith, start-first _ (c .before .before .before .pre .0) _ (c .wide .ensures))
+loop-holds c = (omega arith, start-first _ _ (c .wide .ensures))
 
 shared-slice-read-wide-2 : tie.Need-shared-slice-read-wide-2 Inv-loop μ-loop
-shared-slice-read-wide-2 c = omega (arith, start-room _ (c .before .before .before .before .before .before .pre .0) _ _ (c .before .before .loop .inv .1) (omega arith))
+shared-slice-read-wide-2 c = omega (arith, line-inside _ (c .before .before .before .before .before .before .pre .0) _ _ (omega arith) (c .before .before .loop .inv .1))
 
 wide-requires-2 : tie.Need-wide-requires-2 Inv-loop μ-loop
 wide-requires-2 c κs = search needs
 
 add-at-2 : tie.Need-add-at-2 Inv-loop μ-loop
-add-at-2 c = omega (arith, start-room _ (c .before .before .before .before .before .before .before .pre .0) _ _ (c .before .before .before .loop .inv .1) (omega arith))
+add-at-2 c = omega (arith, line-inside _ (c .before .before .before .before .before .before .before .pre .0) _ _ (omega arith) (c .before .before .before .loop .inv .1))
 
 add-at-3 : tie.Need-add-at-3 Inv-loop μ-loop
-add-at-3 c = omega (arith, start-room _ (c .before .before .before .before .before .before .before .pre .0) _ _ (c .before .before .before .loop .inv .1) (omega arith))
+add-at-3 c = omega (arith, line-inside _ (c .before .before .before .before .before .before .before .pre .0) _ _ (omega arith) (c .before .before .before .loop .inv .1))
 
 add-i : tie.Need-add-i Inv-loop μ-loop
 add-i c = omega arith
@@ -49,7 +49,7 @@ loop-less : tie.Need-loop-less Inv-loop μ-loop
 loop-less c = omega arith
 
 loop-again : tie.Need-loop-again Inv-loop μ-loop
-loop-again c = (omega arith, start-next _ (c .before .before .before .before .before .before .before .pre .0) _ _ _ (c .before .before .before .loop .inv .1) (c .wide2 .ensures))
+loop-again c = (omega arith, start-next _ _ _ _ (c .before .before .before .loop .inv .1) (c .wide2 .ensures))
 
 returns : tie.Need-returns Inv-loop μ-loop
 returns c = let e : c .before .loop .i ≡ c .before .before .before .before .before .args .n = omega arith in c .before .loop .inv .1 ∙ ap (lineStart _) e

@@ -2,7 +2,8 @@
 use borrow.Author.Needs.{needs}
 use mathlib.Core.Path.{sym, _∙_}
 use native.Mathlib.Omega.{arith}
-use Rattle.text.proofs.ListingLaws.{readable-is, header-in, variables-are, solved-refused, solved-short, solved-all}
+use Rattle.table.specs.LayoutLaws.{readable-is}
+use Rattle.text.proofs.ListingLaws.{header-in, variables-are, solved-refused, solved-short, solved-all}
 use Rattle.text.proofs.put_solved.Statement.{statement}
 use Rattle.text.proofs.put_solved.Tie as tie
 

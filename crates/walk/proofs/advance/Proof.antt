@@ -1,18 +1,10 @@
 -- `walk::advance` meets its contract: one law for each end of the sweep.
-use mathlib.Core.Path.{_≡_, refl, sym}
-use Prim.Native.Nat.{_≤_, _<_}
+use mathlib.Core.Path.{refl, sym}
 use native.Mathlib.Omega.{arith}
-use lib.ListN.{length}
-use Rattle.node.specs.NodeTestLaws.{node-few}
 use Rattle.walk.proofs.Laws.{given-variables, given-chosen, advanced-live, advanced-over, advanced-spent}
 use borrow.Author.Needs.{needs}
 use Rattle.walk.proofs.advance.Statement.{statement}
 use Rattle.walk.proofs.advance.Tie as tie
-use Rattle.walk.proofs.advance.Reads as reads
-use Rattle.walk.proofs.advance.Lts as lts
-use Rattle.level.proofs.sweep.Reads as sweep-reads
-use Rattle.walk.proofs.look.Reads as look-reads
-use Rattle.walk.proofs.moved.Reads as moved-reads
 
 sweep-requires : tie.Need-sweep-requires
 sweep-requires c κs = search needs

@@ -1,14 +1,11 @@
 -- `walk::last_set` meets its contract: the power fits.
-use mathlib.Core.Path.{_≡_}
 use Prim.Native.Nat.{_<_, _^_}
 use native.Mathlib.Omega.{arith}
 use lib.Pow.{pow-pos}
-use Rattle.walk.proofs.Laws.{power-fits}
+use Rattle.order.specs.BitLaws.{power-fits}
 use borrow.Author.Needs.{needs}
 use Rattle.walk.proofs.last_set.Statement.{statement}
 use Rattle.walk.proofs.last_set.Tie as tie
-use Rattle.walk.proofs.last_set.Reads as reads
-use Rattle.walk.proofs.last_set.Lts as lts
 
 cast-result : tie.Need-cast-result
 cast-result c = search needs

@@ -1,6 +1,5 @@
 -- `walk::look` meets its contract: one law for each of its three ends.
-use mathlib.Core.Path.{_≡_, sym, ap, _∙_}
-use Prim.Native.Nat.{_≤_, _<_}
+use mathlib.Core.Path.{_≡_, sym, _∙_}
 use native.Mathlib.Omega.{arith}
 use lib.ListN.{length}
 use Rattle.walk.specs.Step.{Next, Looked, deadAt}
@@ -8,10 +7,6 @@ use Rattle.walk.proofs.Laws.{looked-dead, looked-solved, looked-down}
 use borrow.Author.Needs.{needs}
 use Rattle.walk.proofs.look.Statement.{statement}
 use Rattle.walk.proofs.look.Tie as tie
-use Rattle.walk.proofs.look.Reads as reads
-use Rattle.walk.proofs.look.Lts as lts
-use Rattle.walk.proofs.child.Reads as child-reads
-use Rattle.walk.proofs.next_node.Reads as next-node-reads
 
 next-node-requires : tie.Need-next-node-requires
 next-node-requires c κs = search needs

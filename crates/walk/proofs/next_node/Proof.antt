@@ -1,7 +1,7 @@
 -- `walk::next_node` meets its contract. The invariant: what comes after the first node comes after the one at hand. The measure is how many are chosen.
 use borrow.Author.Needs.{needs}
-use mathlib.Core.Path.{_≡_, refl, ap, _∙_}
-use Prim.Native.Nat.{ℕ, _+_, _-_, _^_, _≤_}
+use mathlib.Core.Path.{_≡_}
+use Prim.Native.Nat.{_+_, _^_, _≤_}
 use native.Mathlib.Omega.{arith}
 use lib.ListN.{length}
 use Rattle.el.specs.Table.{Table, atoms}
@@ -9,8 +9,6 @@ use Rattle.walk.specs.Step.{Next, rest, after}
 use Rattle.walk.proofs.Laws.{Goes, goes-start, goes-up, next-sibling, next-none}
 use Rattle.walk.proofs.next_node.Statement.{statement}
 use Rattle.walk.proofs.next_node.Tie as tie
-use Rattle.walk.proofs.next_node.Reads as reads
-use Rattle.walk.proofs.next_node.Lts as lts
 
 abbrev Inv-loop : tie.InvT-loop
 Inv-loop last set₀ k₀ set k =

@@ -1,18 +1,10 @@
 -- `walk::walk` meets its contract: the counts are the table's bytes.
-use mathlib.Core.Path.{_≡_}
-use Prim.Native.Nat.{_+_, _≤_}
 use native.Mathlib.Omega.{arith}
-use lib.ListN.{length}
 use Rattle.table.specs.LayoutLaws.{layout}
 use Rattle.walk.proofs.Laws.{given-table}
 use borrow.Author.Needs.{needs}
 use Rattle.walk.proofs.walk.Statement.{statement}
 use Rattle.walk.proofs.walk.Tie as tie
-use Rattle.walk.proofs.walk.Reads as reads
-use Rattle.walk.proofs.walk.Lts as lts
-use Rattle.table.proofs.wide.Reads as wide-reads
-use Rattle.walk.proofs.last_set.Reads as last-set-reads
-use Rattle.walk.proofs.walk_from_root.Reads as walk-from-root-reads
 
 shared-slice-read-wide : tie.Need-shared-slice-read-wide
 shared-slice-read-wide c = omega (arith, layout _ (c .before .before .pre) .header-in)

@@ -2,7 +2,7 @@
 -- budget, gives the outcome; and the level is that of the node at hand. The measure is what is left of the budget.
 use borrow.Author.Needs.{needs}
 use mathlib.Core.Path.{_≡_, sym}
-use Prim.Native.Nat.{ℕ, _+_, _-_, _≤_, _<_}
+use Prim.Native.Nat.{_-_, _≤_}
 use native.Mathlib.Omega.{arith}
 use lib.ListN.{take}
 use Rattle.el.specs.Description.{sameRole}
@@ -14,10 +14,6 @@ use Rattle.walk.specs.Step.{SoundAt, Kin, rest, outcomeOf}
 use Rattle.walk.proofs.Laws.{given-chosen, given-node, given-sweep, kin-some, gone-fits, gone-found, gone-over, gone-on, walked-spent}
 use Rattle.walk.proofs.walk_below.Statement.{statement}
 use Rattle.walk.proofs.walk_below.Tie as tie
-use Rattle.walk.proofs.walk_below.Reads as reads
-use Rattle.walk.proofs.walk_below.Lts as lts
-use Rattle.level.proofs.level_of.Reads as level-of-reads
-use Rattle.walk.proofs.advance.Reads as advance-reads
 
 abbrev Inv-loop : tie.InvT-loop
 Inv-loop table fill mask start c e v m last budget sets₀ level₀ count₀ sets level count =

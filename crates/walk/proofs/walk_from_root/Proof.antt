@@ -1,5 +1,5 @@
 -- `walk::walk_from_root` meets its contract: the root is examined by itself, and the walk goes on below it.
-use mathlib.Core.Path.{_≡_, refl, sym, subst}
+use mathlib.Core.Path.{refl, sym, subst}
 use Prim.Native.Nat.{_≤_, _<_}
 use native.Mathlib.Omega.{arith}
 use lib.ListN.{replicate}
@@ -10,12 +10,6 @@ use Rattle.walk.proofs.Laws.{given-variables, given-node, zeros, sound-
 use borrow.Author.Needs.{needs}
 use Rattle.walk.proofs.walk_from_root.Statement.{statement}
 use Rattle.walk.proofs.walk_from_root.Tie as tie
-use Rattle.walk.proofs.walk_from_root.Reads as reads
-use Rattle.walk.proofs.walk_from_root.Lts as lts
-use Rattle.node.proofs.is_dead.Reads as is-dead-reads
-use Rattle.node.proofs.prepare.Reads as prepare-reads
-use Rattle.walk.proofs.look.Reads as look-reads
-use Rattle.walk.proofs.walk_below.Reads as walk-below-reads
 
 -- no variable is chosen
 abbrev root : Sets

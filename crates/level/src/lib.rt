@@ -1,5 +1,5 @@
-// A level of the walk: what the children of one live node share. Worked out once for a node, it leaves for each child the
-// newest variable's own dependences and the lines that only now are ready.
+// A level of the walk: what the children of one live node share. Worked out once for a node, it leaves for each child two masks
+// to hold its newest set against, and the lines that only now are ready.
 ghost use mathlib.Core.Path.{_≡_};
 ghost use mathlib.Core.Bool.{Bool, _&&_, _||_};
 ghost use Prim.Native.Nat.{ℕ, _+_, _-_, _≤_, _<_};

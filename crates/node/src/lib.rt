@@ -38,12 +38,6 @@ pub struct Prepared {
     pub start: [usize; 64],
 }
 
-fn wide(x: u8) -> usize
-    ensures { λ r. ⌜ r ≡ x ⌝ }
-{
-    x as usize
-}
-
 // The mask of the variable that stands inside restriction k; 0 where there is none.
 fn filler_mask(table: &[u8], k: usize) -> u32
     requires { ⌜ Layout (now table) (tableOf (now table)) ⌝ }
@@ -54,7 +48,7 @@ fn filler_mask(table: &[u8], k: usize) -> u32
         Kind::Top => 0,
         Kind::Constant(_) => 0,
         Kind::Restriction(_) => 0,
-        Kind::Variable(x) => 1u32 << wide(x),
+        Kind::Variable(x) => 1u32 << table::wide(x),
         Kind::Other => 0,
     }
 }
@@ -172,8 +166,8 @@ fn entry_mask(table: &[u8], code: u8) -> u32
     match table::kind_of(code) {
         Kind::Top => 0,
         Kind::Constant(_) => 0,
-        Kind::Restriction(k) => filler_mask(table, wide(k)),
-        Kind::Variable(x) => 1u32 << wide(x),
+        Kind::Restriction(k) => filler_mask(table, table::wide(k)),
+        Kind::Variable(x) => 1u32 << table::wide(x),
         Kind::Other => 0,
     }
 }
@@ -184,7 +178,7 @@ fn line_mask(table: &[u8], n: usize, at: usize) -> u32
     requires { ⌜ (n < byteAt (now table) 9) × (at ≡ lineStart (now table) n) ⌝ }
     ensures { λ r. ⌜ Masks (isAmong (lineVariables (tableOf (now (table .entry)) .rows) (lineAt (tableOf (now (table .entry)) .lines) n))) r ⌝ }
 {
-    let p = wide(table[at]);
+    let p = table::wide(table[at]);
     let mut mask: u32 = 0;
     let mut i: usize = 0;
     while i < p {
@@ -206,7 +200,7 @@ fn lines_of(table: &[u8], e: usize, m: usize) -> Lines
     while n < m {
         mask[n] = line_mask(table, n, at);
         start[n] = at;
-        at = at + wide(table[at]) + 2;
+        at = at + table::wide(table[at]) + 2;
         n += 1;
     }
     Lines { mask, start }

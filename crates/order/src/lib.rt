@@ -18,12 +18,6 @@ ghost use Rattle.order.specs.Given.{fillerFrom, entryFrom, IsFiller, IsE
 // Where the restriction rows begin.
 const ROWS: usize = table::HEADER;
 
-fn wide(x: u8) -> usize
-    ensures { λ r. ⌜ r ≡ x ⌝ }
-{
-    x as usize
-}
-
 // Bit i of the set number s.
 fn bit_of(s: u32, i: usize) -> bool
     requires { ⌜ i < 32 ⌝ }
@@ -47,9 +41,9 @@ fn filler_set(table: &[u8], set: &[u32], c: usize, e: usize, f: u8) -> u32
 {
     match table::kind_of(f) {
         Kind::Top => 0,
-        Kind::Constant(k) => 1u32 << wide(k),
+        Kind::Constant(k) => 1u32 << table::wide(k),
         Kind::Restriction(_) => 0,
-        Kind::Variable(x) => set[wide(x)],
+        Kind::Variable(x) => set[table::wide(x)],
         Kind::Other => 0,
     }
 }
@@ -61,9 +55,9 @@ fn entry_set(table: &[u8], set: &[u32], c: usize, e: usize, x: u8) -> u32
 {
     match table::kind_of(x) {
         Kind::Top => 1,
-        Kind::Constant(k) => 1u32 << wide(k),
-        Kind::Restriction(k) => 1u32 << (c + wide(k)),
-        Kind::Variable(y) => set[wide(y)],
+        Kind::Constant(k) => 1u32 << table::wide(k),
+        Kind::Restriction(k) => 1u32 << (c + table::wide(k)),
+        Kind::Variable(y) => set[table::wide(y)],
         Kind::Other => 1,
     }
 }
@@ -159,7 +153,7 @@ fn left_set(table: &[u8], set: &[u32], c: usize, e: usize, n: usize, at: usize) 
     requires { ⌜ Given (now table) (now set) c e × (n < byteAt (now table) 9) × (at ≡ lineStart (now table) n) ⌝ }
     ensures { λ r. ⌜ r ≡ leftSet (tableOf (now (table .entry))) (now (set .entry)) (lineAt (tableOf (now (table .entry)) .lines) n .left) ⌝ }
 {
-    let p = wide(table[at]);
+    let p = table::wide(table[at]);
     let mut left = 0u32;
     let mut i = 0;
     while i < p {
@@ -182,7 +176,7 @@ pub fn line_holds(
     requires { ⌜ LineGiven (now table) (now set) c e v n at ⌝ }
     ensures { λ r. ⌜ r ≡ holds sameRole (tableOf (now (table .entry)) .rows) (induced (tableOf (now (table .entry))) (now (set .entry))) (lineAt (tableOf (now (table .entry)) .lines) n) ⌝ }
 {
-    let p = wide(table[at]);
+    let p = table::wide(table[at]);
     let left = left_set(table, set, c, e, n, at);
     let right = entry_set(table, set, c, e, table[at + 1 + p]);
     let missing = right ^ (right & left);

@@ -104,6 +104,9 @@ module _ {s start : List ℕ} {turning leaving : ℕ} {fresh : List ℕ} {few c 
     x-is : x ≡ ownOf (setsOf a k) + passed
     x-is = reads ∙ own-here
 
+    x-within : x ≤ last
+    x-within = let w : ownOf (setsOf a k) + passed ≤ last = at .within in let q = x-is in omega arith
+
     sibling-is : take k here ≡ take k (siblingOf (setsOf a k) x)
     sibling-is = ap (take k) (at .is ∙ ap (set a (k - 1)) (sym x-is))
 
@@ -113,16 +116,16 @@ module _ {s start : List ℕ} {turning leaving : ℕ} {fresh : List ℕ} {few c 
     pub swept-live : {most : ℕ} {b : Bool} → passed < most → b ≡ dead sameRole (tableOf s) (take k here) → b ≡ false
         → Sweeps (tableOf s) (setsOf a k) last most (record { end = Live; passed = passed + 1; at = x })
     swept-live {most} {b} h e f =
-        record { few = omega arith; within = let w : ownOf (setsOf a k) + passed ≤ last = at .within in let q = x-is in omega arith; ends = (passed, refl, x-is, at .dead-all, answer-is b false e f) }
+        record { few = omega arith; within = x-within; ends = (passed, refl, x-is, at .dead-all, answer-is b false e f) }
 
     pub swept-over : {most : ℕ} {b : Bool} → passed < most → b ≡ dead sameRole (tableOf s) (take k here) → b ≡ true → last ≤ x
         → Sweeps (tableOf s) (setsOf a k) last most (record { end = Over; passed = passed + 1; at = x })
     swept-over {most} {b} h e f l =
-        record { few = omega arith; within = let w : ownOf (setsOf a k) + passed ≤ last = at .within in let q = x-is in omega arith; ends = (passed, refl, x-is, at .dead-all, answer-is b true e f, l) }
+        record { few = omega arith; within = x-within; ends = (passed, refl, x-is, at .dead-all, answer-is b true e f, l) }
 
     pub swept-spent : {most : ℕ} → passed ≤ most → most ≤ passed → Sweeps (tableOf s) (setsOf a k) last most (record { end = Spent; passed = passed; at = x })
     swept-spent h l =
-        record { few = h; within = let w : ownOf (setsOf a k) + passed ≤ last = at .within in let q = x-is in omega arith; ends = (omega arith, x-is, at .dead-all) }
+        record { few = h; within = x-within; ends = (omega arith, x-is, at .dead-all) }
 
     pub at-next : {b : Bool} → b ≡ dead sameRole (tableOf s) (take k here) → b ≡ true → x < last → At (tableOf s) a k last (passed + 1) (set here (k - 1) (x + 1))
     at-next {b} e f l =

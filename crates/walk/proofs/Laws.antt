@@ -360,27 +360,29 @@ module _ (t : Table) (last : ℕ) (width : 2 ^ atoms t ≡ last + 1) (sets : Set
             (w .0, w .1, w .2 ∙ ap (λ (x : ℕ). scan (ends sameRole t) (b - x) x (rest t to)) passed)
         go Over k = walked-over t b (n + i) here so-far more Over to k refl ∙ ap nothing passed
 
+    -- what the sweep says, by its end
+    as-ended : (x : level-end.End) → swept .end ≡ x → SweepsAs t sets last most x (swept .passed) (swept .at)
+    as-ended x e = subst (λ (z : level-end.End). SweepsAs t sets last most z (swept .passed) (swept .at)) e (sweeps .ends)
+
     module _ (step : Step) (d : Bool) (looks : SoundAt t (here .set) (here .chosen) → d ≡ deadAt t here → Looked t here step) where
       looked-here : deadSibling t sets (swept .at) ≡ d → LookedAs t here (step .going) (step .sets)
       looked-here e = unfold Looked in looks here-sound (sym e ∙ here-dead)
 
-      pub advanced-live : d ≡ false → swept .end ≡ level-ends.Live → Advances t v sets most (record { going = step .going; sets = step .sets; passed = swept .passed })
+      advanced-by : (i : ℕ) → swept .passed ≡ i + 1 → swept .at ≡ ownOf sets + i → Passes t sets i → deadSibling t sets (swept .at) ≡ d → Advances t v sets most (record { going = step .going; sets = step .sets; passed = swept .passed })
       unfolding Advances
-      advanced-live z e =
-          let w = subst (λ (x : level-end.End). SweepsAs t sets last most x (swept .passed) (swept .at)) e (sweeps .ends) in
-          (let q : swept .passed ≡ w .0 + 1 = w .1 in omega arith, sweeps .few, advanced (w .0) (w .1) (w .2) (w .3) (step .going) (step .sets) (looked-here (w .4 ∙ sym z)))
+      advanced-by i all e p z = (omega arith, sweeps .few, advanced i all e p (step .going) (step .sets) (looked-here z))
+
+      pub advanced-live : d ≡ false → swept .end ≡ level-ends.Live → Advances t v sets most (record { going = step .going; sets = step .sets; passed = swept .passed })
+      advanced-live z e = let w = as-ended level-ends.Live e in advanced-by (w .0) (w .1) (w .2) (w .3) (w .4 ∙ sym z)
 
       pub advanced-over : d ≡ true → swept .end ≡ level-ends.Over → Advances t v sets most (record { going = step .going; sets = step .sets; passed = swept .passed })
-      unfolding Advances
-      advanced-over z e =
-          let w = subst (λ (x : level-end.End). SweepsAs t sets last most x (swept .passed) (swept .at)) e (sweeps .ends) in
-          (let q : swept .passed ≡ w .0 + 1 = w .1 in omega arith, sweeps .few, advanced (w .0) (w .1) (w .2) (w .3) (step .going) (step .sets) (looked-here (w .4 ∙ sym z)))
+      advanced-over z e = let w = as-ended level-ends.Over e in advanced-by (w .0) (w .1) (w .2) (w .3) (w .4 ∙ sym z)
 
     -- all that were allowed are dead
     pub advanced-spent : swept .end ≡ level-ends.Spent → 0 < most → Advances t v sets most (record { going = On; sets = here; passed = swept .passed })
     unfolding Advances
     advanced-spent e h =
-        let w = subst (λ (x : level-end.End). SweepsAs t sets last most x (swept .passed) (swept .at)) e (sweeps .ends) in
+        let w = as-ended level-ends.Spent e in
         let q : swept .passed ≡ most = w .0 in
         (omega arith, sweeps .few, λ b n total inv. (here-sound, here-kin, here-on b n inv (swept .passed) (w .1) (omega arith) (w .2)))
       where

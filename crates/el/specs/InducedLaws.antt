@@ -17,6 +17,7 @@
 --   inducedTo-stable    == from the rank of x on, carrying out once more changes nothing at x
 --   induced-at          == the equation, at a variable of the table
 --   induced-equation    == the equation, where only variables of the table have a set
+--   induced-only        == on the table's variables no other substitution meets it
 --   inducedTo-reached   == assignments that give the same sets to x and all that x reaches
 --   induced-same        == assignments that give the same sets
 use mathlib.Core.Path.{_≡_, refl, sym, ap, ap₂, subst, _∙_}
@@ -242,6 +243,20 @@ module _ (t : Table) (known : T (declared t)) (a : Assignment) (calm : T (acycli
       go : Dec (x < t .variables) → induced t a x ≡ setUnder t (induced t a) (setOf a x)
       go (yes h) = induced-at x h
       go (no h) = beyond (List·getD-eq-default a 0 (omega arith))
+
+  module _ (σ : Substitution) (meets : (x : ℕ) → x < t .variables → σ x ≡ setUnder t σ (setOf a x)) where
+    only-to : (k x : ℕ) → x < t .variables → rank t a x < k → σ x ≡ inducedTo t a k x
+    unfolding inducedTo
+    only-to zero x l h = absurd (not-suc-le-zero h)
+    only-to (suc k) x l h =
+        meets x l
+        ∙ setUnder-same t a x σ (inducedTo t a k)
+        (λ y u. let g : rank t a y < rank t a x = rank-falls x y u in only-to k y (depends-declared t known a x y u) (omega arith))
+
+    -- NO OTHER SUBSTITUTION MEETS THE EQUATION
+    pub induced-only : (x : ℕ) → x < t .variables → σ x ≡ induced t a x
+    unfolding induced
+    induced-only x l = only-to (t .variables) x l (rank-below x l)
 
 ----------------------------------------------------------------------------------------------------
 -- Assignments that give the same sets

@@ -21,6 +21,7 @@ pub mod Locality
 pub mod LocalityLaws
 pub mod Counting
 pub mod CountingLaws
+pub mod CountLaws
 pub mod GrowthLaws
 pub mod Examples
 pub mod Instances

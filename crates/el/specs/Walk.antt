@@ -14,12 +14,14 @@
 --   firstOf p l         == the first element of l that passes p
 --   examined under t    == the nodes examined, in order
 --   count under t       == N, how many they are
+--   sumTo n f           == f 0 + f 1 + ... + f n
+--   mostNodes t         == the sum of 2^((c+e)k) for k from 0 to v
 --   Outcome             == solved with N and an assignment, none with N, or budget with b
 --   outcome under t b   == the outcome of the walk with the budget b
 use mathlib.Core.Bool.{Bool, true, false, _&&_, _||_, not}
 use mathlib.Core.List.{List, [], _∷_, _++_}
 use mathlib.Core.Option.{Option, none, some}
-use Prim.Native.Nat.{ℕ, zero, suc, _+_, _^_}
+use Prim.Native.Nat.{ℕ, zero, suc, _+_, _*_, _^_}
 use lib.Dec.{eqb, ltb, leb}
 use lib.ListN.{length}
 use Rattle.el.specs.Test.{allBelow, anyOf, everyOf}
@@ -103,6 +105,14 @@ examined under t = upToFirst (ends under t) (nodes under t)
 
 unfoldable pub count : (ℕ → ℕ → Bool) → Table → ℕ
 count under t = length (examined under t)
+
+unfoldable pub sumTo : ℕ → (ℕ → ℕ) → ℕ
+sumTo zero f = f 0
+sumTo (suc n) f = sumTo n f + f (suc n)
+
+-- "N is at most the sum of 2^((c+e)k) for k from 0 to v."
+unfoldable pub mostNodes : Table → ℕ
+mostNodes t = sumTo (t .variables) (λ k. 2 ^ (atoms t * k))
 
 pub data Outcome : Type 0 where
   solved : ℕ → Assignment → Outcome

@@ -20,7 +20,8 @@ use borrow.Author.Tests.{lt-ltb, le-ltb}
 use Rattle.table.specs.declared.Verdict.the-variants.{Refused, Readable}
 use Rattle.el.specs.Description.{sameRole}
 use Rattle.el.specs.Walk.{outcome}
-use Rattle.table.specs.Reading.{byteAt, Header, headerOf, Reading, refusal, readable, reading, isReadable, tableOf}
+use Rattle.table.specs.Reading.{byteAt, Header, Reading, refusal, readable, reading, theTable, isReadable, tableOf}
+use Rattle.table.specs.Bytes.{IsTable}
 use Rattle.table.specs.Step.{verdictOf}
 use Rattle.table.specs.Layout.{lineStart}
 use Rattle.table.specs.LayoutLaws.{layout, readable-header, refused-readable, readable-is, line-inside}
@@ -33,7 +34,7 @@ use Rattle.output.specs.Written.{written}
 use Rattle.makrothel.specs.Answer.{readAnswer, linePart}
 use Rattle.makrothel.specs.Solve.{Answered, refusedAs, outcomeAs, readingAs, answer}
 use Rattle.makrothel.specs.Demand2.{answer-outcome}
-use Rattle.makrothel.specs.Demand1.{answer-short}
+use Rattle.makrothel.specs.Demand1.{is-table, answer-short}
 
 module _ (s : List ℕ) where
   pub header-there : verdictOf (reading s) ≡ Readable → 10 ≤ length s
@@ -118,12 +119,13 @@ module _ (s : List ℕ) (b : ℕ) (out : List ℕ) where
       go (refusal m r) e = let h : m ≡ n = cc in let k : r ≡ p = cc in sym (ap (λ (i : ℕ). refusedAs i r out) h ∙ ap (λ (i : ℕ). refusedAs n i out) k)
       go (readable h t) e = absurd (refused-readable n p (sym e))
 
-  the-reading : verdictOf (reading s) ≡ Readable → reading s ≡ readable (headerOf s) (tableOf s)
-  the-reading q = go (reading s) refl (readable-is s q)
+  the-table : verdictOf (reading s) ≡ Readable → IsTable s (tableOf s)
+  unfolding tableOf
+  the-table q = go (reading s) refl (readable-is s q)
     where
-      go : (x : Reading) → reading s ≡ x → T (isReadable (reading s)) → reading s ≡ readable (headerOf s) (tableOf s)
-      go (refusal n p) e ok = absurd (subst (λ (x : Reading). T (isReadable x)) e ok)
-      go (readable h t) e ok = let k = readable-header s h t e in e ∙ ap (λ (x : Header). readable x t) (k .0) ∙ ap (readable (headerOf s)) (k .1)
+      go : (x : Reading) → reading s ≡ x → T (isReadable x) → IsTable s (theTable x)
+      go (refusal n p) e ok = absurd ok
+      go (readable h t) e ok = is-table s h t e
 
   variables : verdictOf (reading s) ≡ Readable → tableOf s .variables ≡ byteAt s 7
   variables q = layout s (readable-is s q) .variables
@@ -131,7 +133,7 @@ module _ (s : List ℕ) (b : ℕ) (out : List ℕ) where
   pub solve-short : (v : ℕ) → v ≡ byteAt s 7 → verdictOf (reading s) ≡ Readable → length out < 4 * v → refusedAs 7 (4 * v) out ≡ answer s b out
   solve-short v e q l =
       let h : tableOf s .variables ≡ v = variables q ∙ sym e in
-      sym (answer-short s b out (headerOf s) (tableOf s) (the-reading q) (omega arith) ∙ ap (λ (k : ℕ). refusedAs 7 (4 * k) out) h)
+      sym (answer-short s b out (tableOf s) (the-table q) (omega arith) ∙ ap (λ (k : ℕ). refusedAs 7 (4 * k) out) h)
 
   pub solve-walked : (v : ℕ) → v ≡ byteAt s 7 → verdictOf (reading s) ≡ Readable → 4 * v ≤ length out → outcomeAs (outcome sameRole (tableOf s) b) out ≡ answer s b out
-  solve-walked v e q l = let h : tableOf s .variables ≡ v = variables q ∙ sym e in sym (answer-outcome s (headerOf s) (tableOf s) (the-reading q) b out (omega arith))
+  solve-walked v e q l = let h : tableOf s .variables ≡ v = variables q ∙ sym e in sym (answer-outcome s (tableOf s) (the-table q) b out (omega arith))

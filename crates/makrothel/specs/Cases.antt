@@ -1,36 +1,54 @@
 -- The tables with known outcome, P1 to P12, as one list under one statement.
 --
---   Case        == a table's bytes, a budget, how many variables it has, and the outcome
+--   Budget      == at least so many nodes, or exactly so many
+--   Under g b   == the budget b is one of g
+--   Case        == a table's bytes, budgets, how many variables it has, and what is answered: number, count and sets
 --   cases       == P1 to P12
---   Answers k   == for every output with room the answer is the one that the outcome gives
+--   Answers k   == for every such budget and every output with room the answer is that number, that count, place 0, and those sets written
 --   cases-hold  == every case answers so
 use mathlib.Core.Path.{_≡_, refl, sym, ap, subst, _∙_}
 use mathlib.Core.List.{List, [], _∷_, _++_}
 use Prim.Native.Nat.{ℕ, _*_, _≤_}
+use native.Mathlib.Omega.{arith}
+use lib.Dec.{T}
 use lib.ListN.{length}
 use Rattle.el.specs.Test.{anyBelow, allBelow, anyOf, everyOf, bit}
 use Rattle.el.specs.Description.{sameRole}
-use Rattle.el.specs.Table.{rowAt, atoms}
+use Rattle.el.specs.Table.{Table, rowAt, atoms, declared}
 use Rattle.el.specs.Meaning.{holds}
 use Rattle.el.specs.Assignment.{setOf, depends, path, reaches, acyclic, atomUnder, conjoin, setUnder, inducedTo, induced}
 use Rattle.el.specs.Walk.{chosen, lineVariables, settled, ready, fails, dead, full, ends, inTurn, subtree, nodes, upToFirst, firstOf, examined, count, Outcome, solved, nothing, budget, outcome}
+use Rattle.el.specs.OutcomeLaws.{more-budget}
 use Rattle.table.specs.Code.{kindOf, within, fillerOfKind, fillerOf, entryOfKind, entryOf}
-use Rattle.table.specs.Reading.{marked, versionOne, readHeader, readRow, readRows, readEntry, readEntries, readLine, readLines, readBody, readable, headerOf, reading, tableOf}
+use Rattle.table.specs.Reading.{marked, versionOne, readHeader, readMany, readRow, readEntry, readLine, readBody, readable, headerOf, reading, tableOf}
+use Rattle.table.specs.Bytes.{IsTable}
+use Rattle.output.specs.Written.{setBytes, written}
+use Rattle.makrothel.specs.Numbers.{N}
 use Rattle.makrothel.specs.Solve.{outcomeAs, answer}
-use Rattle.makrothel.specs.Demand2.{answer-outcome}
+use Rattle.makrothel.specs.Demand1.{is-table}
+use Rattle.makrothel.specs.Demand2.{known, answer-outcome}
+
+pub data Budget : Type 0 where
+  atLeast exactly : ℕ → Budget
+
+abbrev pub Under : Budget → ℕ → Type 0
+Under (atLeast n) b = n ≤ b
+Under (exactly n) b = b ≡ n
 
 pub record Case : Type 0 where
   pub bytes : List ℕ
-  pub allowed : ℕ
+  pub budgets : Budget
   pub variables : ℕ
-  pub outcome : Outcome
+  pub number : ℕ
+  pub count : ℕ
+  pub sets : List ℕ
 
 -- the mark and the version, and a table's bytes behind them
 abbrev table : List ℕ → List ℕ
 table rest = 0x56 ∷ 0x4F ∷ 0x43 ∷ 0x01 ∷ 0x00 ∷ rest
 
-abbrev case : List ℕ → ℕ → ℕ → Outcome → Case
-case rest b v o = record { bytes = table rest; allowed = b; variables = v; outcome = o }
+abbrev case : List ℕ → Budget → ℕ → ℕ → ℕ → List ℕ → Case
+case rest b v n k a = record { bytes = table rest; budgets = b; variables = v; number = n; count = k; sets = a }
 
 -- c, r, v, e, m
 abbrev counts : ℕ → ℕ → ℕ → ℕ → ℕ → List ℕ
@@ -51,103 +69,98 @@ Y = 0x61
 
 -- no lines, no variables
 abbrev pub p1 : Case
-p1 = case (counts 0 0 0 0 0) 1 0 (solved 1 [])
+p1 = case (counts 0 0 0 0 0) (atLeast 1) 0 0 1 []
 
 -- A below B, no variables
 abbrev pub p2 : Case
-p2 = case (counts 2 0 0 0 1 ++ (1 ∷ A ∷ B ∷ [])) 1 0 (nothing 1)
+p2 = case (counts 2 0 0 0 1 ++ (1 ∷ A ∷ B ∷ [])) (atLeast 1) 0 8 1 []
 
 -- X below A
 abbrev pub p3 : Case
-p3 = case (counts 1 0 1 0 1 ++ (1 ∷ X ∷ A ∷ [])) 3 1 (solved 3 (1 ∷ []))
+p3 = case (counts 1 0 1 0 1 ++ (1 ∷ X ∷ A ∷ [])) (atLeast 3) 1 0 3 (1 ∷ [])
 
 -- A below X
 abbrev pub p4 : Case
-p4 = case (counts 1 0 1 0 1 ++ (1 ∷ A ∷ X ∷ [])) 2 1 (solved 2 (0 ∷ []))
+p4 = case (counts 1 0 1 0 1 ++ (1 ∷ A ∷ X ∷ [])) (atLeast 2) 1 0 2 (0 ∷ [])
 
 -- X below some r X
 abbrev pub p5 : Case
-p5 = case (counts 0 1 1 1 1 ++ (0 ∷ X ∷ 1 ∷ X ∷ 0x40 ∷ [])) 3 1 (nothing 3)
+p5 = case (counts 0 1 1 1 1 ++ (0 ∷ X ∷ 1 ∷ X ∷ 0x40 ∷ [])) (atLeast 3) 1 8 3 []
 
 -- some r X below some r A
 abbrev pub p6 : Case
-p6 = case (counts 1 1 1 2 1 ++ (0 ∷ X ∷ 0 ∷ A ∷ 1 ∷ 0x40 ∷ 0x41 ∷ [])) 3 1 (solved 3 (1 ∷ []))
+p6 = case (counts 1 1 1 2 1 ++ (0 ∷ X ∷ 0 ∷ A ∷ 1 ∷ 0x40 ∷ 0x41 ∷ [])) (atLeast 3) 1 0 3 (1 ∷ [])
 
 -- X below A; X below B; A and B below X
 abbrev pub p7 : Case
-p7 = case (counts 2 0 1 0 3 ++ (1 ∷ X ∷ A ∷ 1 ∷ X ∷ B ∷ 2 ∷ A ∷ B ∷ X ∷ [])) 5 1 (solved 5 (3 ∷ []))
+p7 = case (counts 2 0 1 0 3 ++ (1 ∷ X ∷ A ∷ 1 ∷ X ∷ B ∷ 2 ∷ A ∷ B ∷ X ∷ [])) (atLeast 5) 1 0 5 (3 ∷ [])
 
 -- X below some r Y; Y below A
 abbrev pub p8-rest : List ℕ
 p8-rest = counts 1 1 2 1 2 ++ (0 ∷ Y ∷ 1 ∷ X ∷ 0x40 ∷ 1 ∷ Y ∷ A ∷ [])
 
 abbrev pub p8 : Case
-p8 = case p8-rest 14 2 (solved 14 (2 ∷ 1 ∷ []))
+p8 = case p8-rest (atLeast 14) 2 0 14 (2 ∷ 1 ∷ [])
 
 -- P8, budget 13
 abbrev pub p9 : Case
-p9 = case p8-rest 13 2 (budget 13)
+p9 = case p8-rest (exactly 13) 2 9 13 []
 
 -- top below some r top, no variables
 abbrev pub p10 : Case
-p10 = case (counts 0 1 0 1 1 ++ (0 ∷ 0 ∷ 0 ∷ 0x40 ∷ [])) 1 0 (nothing 1)
+p10 = case (counts 0 1 0 1 1 ++ (0 ∷ 0 ∷ 0 ∷ 0x40 ∷ [])) (atLeast 1) 0 8 1 []
 
 -- some r A below some r top, no variables
 abbrev pub p11 : Case
-p11 = case (counts 1 1 0 2 1 ++ (0 ∷ A ∷ 0 ∷ 0 ∷ 1 ∷ 0x40 ∷ 0x41 ∷ [])) 1 0 (solved 1 [])
+p11 = case (counts 1 1 0 2 1 ++ (0 ∷ A ∷ 0 ∷ 0 ∷ 1 ∷ 0x40 ∷ 0x41 ∷ [])) (atLeast 1) 0 0 1 []
 
 -- X below A; X below B; some r A and some r B below some r X
 abbrev pub p12 : Case
 p12 =
-    case (counts 2 1 1 3 3 ++ (0 ∷ A ∷ 0 ∷ B ∷ 0 ∷ X ∷ 1 ∷ X ∷ A ∷ 1 ∷ X ∷ B ∷ 2 ∷ 0x40 ∷ 0x41 ∷ 0x42 ∷ [])) 33 1 (nothing 33)
+    case (counts 2 1 1 3 3 ++ (0 ∷ A ∷ 0 ∷ B ∷ 0 ∷ X ∷ 1 ∷ X ∷ A ∷ 1 ∷ X ∷ B ∷ 2 ∷ 0x40 ∷ 0x41 ∷ 0x42 ∷ [])) (atLeast 33) 1 8 33 []
 
 abbrev pub cases : List Case
 cases = p1 ∷ p2 ∷ p3 ∷ p4 ∷ p5 ∷ p6 ∷ p7 ∷ p8 ∷ p9 ∷ p10 ∷ p11 ∷ p12 ∷ []
 
 unfoldable pub Answers : Case → Type 0
-Answers k = (out : List ℕ) → 4 * k .variables ≤ length out → answer (k .bytes) (k .allowed) out ≡ outcomeAs (k .outcome) out
+Answers k =
+    (b : ℕ) → Under (k .budgets) b → (out : List ℕ) → 4 * k .variables ≤ length out
+    → answer (k .bytes) b out ≡ record { number = k .number; count = k .count; place = 0; output = written (k .sets) out }
 
 abbrev pub Every : (Case → Type 0) → List Case → Type 0
 Every P [] = Unit {0}
 Every P (k ∷ ks) = P k × Every P ks
 
 -- what the definitions compute of a case
+abbrev Comes : Budget → Table → Outcome → Type 0
+Comes (atLeast n) t o = (N t ≡ n) × (outcome sameRole t n ≡ o)
+Comes (exactly n) t o = outcome sameRole t n ≡ o
+
 abbrev Computes : Case → Type 0
 Computes k =
-    (reading (k .bytes) ≡ readable (headerOf (k .bytes)) (tableOf (k .bytes))) × (tableOf (k .bytes) .variables ≡ k .variables)
-    × (outcome sameRole (tableOf (k .bytes)) (k .allowed) ≡ k .outcome)
+    (o : Outcome) × (reading (k .bytes) ≡ readable (headerOf (k .bytes)) (tableOf (k .bytes))) × (tableOf (k .bytes) .variables ≡ k .variables)
+    × Comes (k .budgets) (tableOf (k .bytes)) o
+    × ((out : List ℕ) → outcomeAs o out ≡ record { number = k .number; count = k .count; place = 0; output = written (k .sets) out })
+
+comes : (t : Table) → T (declared t) → (g : Budget) (b : ℕ) (o : Outcome) → Under g b → Comes g t o → outcome sameRole t b ≡ o
+comes t d (atLeast n) b o u c = let e : N t ≡ n = c .0 in more-budget sameRole t d n b (omega arith) u ∙ c .1
+comes t d (exactly n) b o u c = ap (outcome sameRole t) u ∙ c
 
 answers : (k : Case) → Computes k → Answers k
 unfolding Answers
-answers k c out room =
-    answer-outcome (k .bytes) (headerOf (k .bytes)) (tableOf (k .bytes)) (c .0) (k .allowed) out (subst (λ (v : ℕ). 4 * v ≤ length out) (sym (c .1)) room)
-    ∙ ap (λ (o : Outcome). outcomeAs o out) (c .2)
+answers k c b u out room =
+    let is : IsTable (k .bytes) (tableOf (k .bytes)) = is-table (k .bytes) (headerOf (k .bytes)) (tableOf (k .bytes)) (c .1) in
+    answer-outcome (k .bytes) (tableOf (k .bytes)) is b out (subst (λ (v : ℕ). 4 * v ≤ length out) (sym (c .2)) room)
+    ∙ ap (λ (o : Outcome). outcomeAs o out) (comes (tableOf (k .bytes)) (known (k .bytes) (tableOf (k .bytes)) is) (k .budgets) b (c .0) u (c .3))
+    ∙ c .4 out
 
 every : (ks : List Case) → Every Computes ks → Every Answers ks
 every [] c = tt
 every (k ∷ ks) c = (answers k (c .0), every ks (c .1))
 
 computed : Every Computes cases
-unfolding outcome count examined firstOf upToFirst nodes subtree inTurn ends full dead fails ready settled lineVariables chosen induced inducedTo setUnder conjoin atomUnder acyclic reaches path depends setOf holds rowAt atoms anyBelow allBelow anyOf everyOf bit sameRole tableOf reading readBody readLines readLine readEntries readEntry readRows readRow readHeader versionOne marked entryOf entryOfKind fillerOf fillerOfKind within kindOf
-computed = (
-  (refl, refl, refl),
-  (
-    (refl, refl, refl),
-    (
-      (refl, refl, refl),
-      (
-        (refl, refl, refl),
-        (
-          (refl, refl, refl),
-          (
-            (refl, refl, refl),
-            ((refl, refl, refl), ((refl, refl, refl), ((refl, refl, refl), ((refl, refl, refl), ((refl, refl, refl), ((refl, refl, refl), tt)))))),
-          ),
-        ),
-      ),
-    ),
-  ),
-)
+unfolding written setBytes outcome count examined firstOf upToFirst nodes subtree inTurn ends full dead fails ready settled lineVariables chosen induced inducedTo setUnder conjoin atomUnder acyclic reaches path depends setOf holds rowAt atoms anyBelow allBelow anyOf everyOf bit sameRole tableOf reading readBody readLine readEntry readRow readMany readHeader versionOne marked entryOf entryOfKind fillerOf fillerOfKind within kindOf
+computed = ((solved 1 [], refl, refl, (refl, refl), λ out. refl), ((nothing 1, refl, refl, (refl, refl), λ out. refl), ((solved 3 (1 ∷ []), refl, refl, (refl, refl), λ out. refl), ((solved 2 (0 ∷ []), refl, refl, (refl, refl), λ out. refl), ((nothing 3, refl, refl, (refl, refl), λ out. refl), ((solved 3 (1 ∷ []), refl, refl, (refl, refl), λ out. refl), ((solved 5 (3 ∷ []), refl, refl, (refl, refl), λ out. refl), ((solved 14 (2 ∷ 1 ∷ []), refl, refl, (refl, refl), λ out. refl), ((budget 13, refl, refl, refl, λ out. refl), ((nothing 1, refl, refl, (refl, refl), λ out. refl), ((solved 1 [], refl, refl, (refl, refl), λ out. refl), ((nothing 33, refl, refl, (refl, refl), λ out. refl), tt))))))))))))
 
 -- P1 TO P12
 pub cases-hold : Every Answers cases

@@ -1,65 +1,51 @@
--- DEMAND 1: every byte string, every budget and every output gets a number of 0 to 9 with its count and place, and a refusal changes nothing.
+-- DEMAND 1: every byte string, every budget and every output gets the number, count and place that belong to it, and a refusal changes nothing.
 --
---   NumberAt s b n k p == number n with count k and place p is a row of the specification's table of numbers, for the bytes s and the budget b
---   number-bound       == such a number is at most 9
---   Row s b out r      == the answer r is such a row, and keeps what it must of the output
+--   number-bound     == a number of the table of numbers is at most 9
+--   is-table         == a readable input is the bytes of its table
 --   answer-refused, answer-short == the answer to a refusal of the reader, and where the output is too short
---   demand-1-row       == every answer is such a row
---   demand-1-number    == its number is at most 9
---   demand-1-kept      == under every number but 0 the output stays
---   demand-1-written   == under 0 the bytes from 4v on stay, and so does the output's length
+--   demand-1-row     == every answer is a row of the table of numbers
+--   demand-1-only    == and the row that belongs to an input is its answer
+--   demand-1-number  == so the number is at most 9
+--   demand-1-refused == 1 to 6 are said exactly if the bytes are so refused, with their place
+--   demand-1-short   == 7 is said exactly if the table is readable and the output shorter than 4v
+--   demand-1-kept    == under every number but 0 the output stays
+--   demand-1-written == under 0 the bytes from 4v on stay, and so does the output's length
+--   demand-1-read-refused, demand-1-read == the reader's answer to bytes that are refused, and to a readable table
 use mathlib.Core.Path.{_≡_, refl, sym, ap, subst, _∙_}
+use mathlib.Core.Logic.{_↔_, _⊎_, inl, inr}
 use mathlib.Core.List.{List}
 use Prim.Native.Nat.{ℕ, _*_, _≤_, _<_}
 use native.Mathlib.Omega.{arith}
 use native.Mathlib.Decide.{decLe}
+use lib.Dec.{T}
 use lib.ListN.{length, drop}
 use lib.Seq.{drop-at}
 use borrow.Author.Tests.{lt-ltb}
-use Rattle.el.specs.Description.{sameRole}
 use Rattle.el.specs.Table.{Table}
-use Rattle.el.specs.Assignment.{IsAssignment}
-use Rattle.el.specs.Walk.{Outcome, solved, nothing, budget, count, outcome}
-use Rattle.el.specs.OutcomeLaws.{OutcomeSays, outcome-says}
-use Rattle.table.specs.Reading.{Header, Reading, refusal, readable, reading, tableOf}
-use Rattle.table.specs.LayoutLaws.{readable-header}
+use Rattle.el.specs.Assignment.{Assignment, IsAssignment}
+use Rattle.table.specs.Reading.{Header, Reading, refusal, readable, reading, tableOf, isReadable}
+use Rattle.table.specs.Bytes.{countsOf, IsTable}
+use Rattle.table.specs.BytesLaws.{table-read, readable-exactly}
+use Rattle.table.specs.Refusal.{RefusedAt}
+use Rattle.table.specs.RefusalLaws.{refused-number, refused-means, means-refusal}
 use Rattle.output.specs.Written.{setBytes, written}
 use Rattle.output.proofs.Laws.{setBytes-length, written-length}
-use Rattle.makrothel.specs.Refusal.{RefusedAt}
-use Rattle.makrothel.specs.RefusalLaws.{refusal-placed, refused-number}
-use Rattle.makrothel.specs.Solve.{Answered, refusedAs, outcomeAs, tableAs, readingAs, answer}
-use Rattle.makrothel.specs.Demand2.{N, known, answer-outcome}
+use Rattle.makrothel.specs.declared.ReadAnswer.{ReadAnswer}
+use Rattle.makrothel.specs.Answer.{readAnswer}
+use Rattle.makrothel.specs.Numbers.{FirstSolving, NoneSolves, N, NumberAt, refused, too-short, is-solved, is-none, is-budget}
+use Rattle.makrothel.specs.Solve.{Answered, refusedAs, tableAs, readingAs, answer}
+use Rattle.makrothel.specs.Demand2.{table-is, within, demand-2-solved, demand-2-none, demand-2-budget}
 
--- the table of numbers
-pub data NumberAt (s : List ℕ) (b : ℕ) : ℕ → ℕ → ℕ → Type 0 where
-  -- 1 to 6: count 0, and the reader's place
-  refused : {n p : ℕ} → RefusedAt s n p → NumberAt s b n 0 p
-  -- 7: count 0, place 4v
-  too-short : NumberAt s b 7 0 (4 * tableOf s .variables)
-  -- 0 and 8: count N, place 0
-  is-solved : NumberAt s b 0 (N (tableOf s)) 0
-  is-none : NumberAt s b 8 (N (tableOf s)) 0
-  -- 9: count b, place 0
-  is-budget : NumberAt s b 9 b 0
-
-pub number-bound : {s : List ℕ} {b n k p : ℕ} → NumberAt s b n k p → n ≤ 9
+number-bound : {s : List ℕ} {b room n k p : ℕ} → NumberAt s b room n k p → n ≤ 9
 number-bound (refused r) = let q = refused-number r in omega arith
-number-bound too-short = omega arith
-number-bound is-solved = omega arith
-number-bound is-none = omega arith
-number-bound is-budget = omega arith
+number-bound (too-short t i w) = omega arith
+number-bound (is-solved t i w l a f) = omega arith
+number-bound (is-none t i w l n) = omega arith
+number-bound (is-budget t i w l) = omega arith
 
--- what an answer is, with what it leaves of the output
-abbrev Kept : ℕ → List ℕ → List ℕ → Type 0
-Kept n out after = (n ≡ 0 → ⊥) → after ≡ out
-
-abbrev Behind : ℕ → ℕ → List ℕ → List ℕ → Type 0
-Behind v n out after = n ≡ 0 → (drop (4 * v) after ≡ drop (4 * v) out) × (length after ≡ length out)
-
-pub record Row (s : List ℕ) (b : ℕ) (out : List ℕ) (r : Answered) : Type 0 where
-  pub row : NumberAt s b (r .number) (r .count) (r .place)
-  pub kept : Kept (r .number) out (r .output)
-  pub behind : Behind (tableOf s .variables) (r .number) out (r .output)
+-- a readable input is the bytes of its table
+pub is-table : (s : List ℕ) (h : Header) (t : Table) → reading s ≡ readable h t → IsTable s t
+is-table s h t e = readable-exactly s h t .0 e .0
 
 written-behind : (v : ℕ) (a out : List ℕ) → length a ≡ v → 4 * v ≤ length out → (drop (4 * v) (written a out) ≡ drop (4 * v) out) × (length (written a out) ≡ length out)
 written-behind v a out e h = (subst (λ (k : ℕ). drop (4 * k) (written a out) ≡ drop (4 * k) out) e after, written-length a out (omega arith))
@@ -67,58 +53,105 @@ written-behind v a out e h = (subst (λ (k : ℕ). drop (4 * k) (written a out) 
     after : drop (4 * length a) (written a out) ≡ drop (4 * length a) out
     after = unfold written in drop-at (setBytes a) (drop (4 * length a) out) (4 * length a) (setBytes-length a)
 
+first-length : (t : Table) (a : Assignment) → FirstSolving t a → length a ≡ t .variables
+unfolding FirstSolving IsAssignment
+first-length t a f = f .0 .0
+
 module _ (s : List ℕ) (b : ℕ) (out : List ℕ) where
   -- the answer to a refusal of the reader
-  pub answer-refused : (n p : ℕ) → reading s ≡ refusal n p → answer s b out ≡ refusedAs n p out
+  pub answer-refused : (n p : ℕ) → RefusedAt s n p → answer s b out ≡ refusedAs n p out
   unfolding answer
-  answer-refused n p e = ap (λ (r : Reading). readingAs r b out) e
+  answer-refused n p r = ap (λ (x : Reading). readingAs x b out) (means-refusal s n p r)
 
-  unread : (n p : ℕ) → reading s ≡ refusal n p → Row s b out (refusedAs n p out)
-  unread n p e =
-      let r : RefusedAt s n p = refusal-placed s n p e in
-      record { row = refused r; kept = λ _. refl; behind = λ z. absurd (let q = refused-number r in let y : ⊥ = omega arith in y) }
+  pub answer-short : (t : Table) → IsTable s t → length out < 4 * t .variables → answer s b out ≡ refusedAs 7 (4 * t .variables) out
+  unfolding answer tableAs
+  answer-short t is l = ap (λ (r : Reading). readingAs r b out) (table-read s t is) ∙ rw (lt-ltb (length out) (4 * t .variables) l, tableAs)
 
-  module _ (h : Header) (t : Table) (e : reading s ≡ readable h t) where
-    same : tableOf s ≡ t
-    same = sym (readable-header s h t e .1)
+  -- what an answer is, with what it leaves of the output
+  record Row (r : Answered) : Type 0 where
+    pub row : NumberAt s b (length out) (r .number) (r .count) (r .place)
+    pub kept : (r .number ≡ 0 → ⊥) → r .output ≡ out
+    pub behind : r .number ≡ 0 → (drop (4 * tableOf s .variables) (r .output) ≡ drop (4 * tableOf s .variables) out) × (length (r .output) ≡ length out)
 
-    walked : (4 * t .variables ≤ length out) → (o : Outcome) → OutcomeSays sameRole t (known s h t e) b o → Row s b out (outcomeAs o out)
-    walked room (solved n a) w =
-        record {
-          row = subst (λ (k : ℕ). NumberAt s b 0 k 0) (ap N same ∙ sym (w .0)) is-solved;
-          kept = λ f. absurd (f refl);
-          behind = λ _. subst (λ (u : Table). (drop (4 * u .variables) (written a out) ≡ drop (4 * u .variables) out) × (length (written a out) ≡ length out)) (sym same)
-              (written-behind (t .variables) a out (unfold IsAssignment in w .2 .0 .0) room);
-        }
-    walked room (nothing n) w =
-        record { row = subst (λ (k : ℕ). NumberAt s b 8 k 0) (ap N same ∙ sym (w .0)) is-none; kept = λ _. refl; behind = λ z. absurd (let y : ⊥ = omega arith in y) }
-    walked room (budget n) w =
-        record { row = subst (λ (k : ℕ). NumberAt s b 9 k 0) (sym (w .0)) is-budget; kept = λ _. refl; behind = λ z. absurd (let y : ⊥ = omega arith in y) }
+  stays : (n k p : ℕ) → (n ≡ 0 → ⊥) → NumberAt s b (length out) n k p → Row (record { number = n; count = k; place = p; output = out })
+  stays n k p f r = record { row = r; kept = λ _. refl; behind = λ z. absurd (f z) }
 
-    short : Row s b out (refusedAs 7 (4 * t .variables) out)
-    short = record { row = subst (λ (u : Table). NumberAt s b 7 0 (4 * u .variables)) same too-short; kept = λ _. refl; behind = λ z. absurd (let y : ⊥ = omega arith in y) }
+  module _ (t : Table) (is : IsTable s t) where
+    walked : 4 * t .variables ≤ length out → Row (answer s b out)
+    walked room = go (decLe (N t) b)
+      where
+        found : N t ≤ b → (a : Assignment) → FirstSolving t a → Row (record { number = 0; count = N t; place = 0; output = written a out })
+        found l a f =
+            record {
+              row = is-solved t is room l a f;
+              kept = λ g. absurd (g refl);
+              behind = λ _. subst (λ (u : Table). (drop (4 * u .variables) (written a out) ≡ drop (4 * u .variables) out) × (length (written a out) ≡ length out)) (table-is s t is)
+                  (written-behind (t .variables) a out (first-length t a f) room);
+            }
 
-    pub answer-short : length out < 4 * t .variables → answer s b out ≡ refusedAs 7 (4 * t .variables) out
-    unfolding answer tableAs
-    answer-short l = ap (λ (r : Reading). readingAs r b out) e ∙ rw (lt-ltb (length out) (4 * t .variables) l, tableAs)
+        go : Dec (N t ≤ b) → Row (answer s b out)
+        go (no l) = subst Row (sym (demand-2-budget s t is b out room (omega arith))) (stays 9 b 0 (λ z. omega arith) (is-budget t is room (omega arith)))
+        go (yes l) = elim (within s t is b out room l) [
+          | inl w ↦ subst Row (sym (w .2)) (found l (w .0) (w .1))
+          | inr w ↦ subst Row (sym (w .1)) (stays 8 (N t) 0 (λ z. omega arith) (is-none t is room l (w .0)))
+        ]
 
-    read : Dec (4 * t .variables ≤ length out) → Row s b out (answer s b out)
-    read (yes room) = subst (Row s b out) (sym (answer-outcome s h t e b out room)) (walked room (outcome sameRole t b) (outcome-says sameRole t (known s h t e) b))
-    read (no l) = subst (Row s b out) (sym (answer-short (omega arith))) short
+    read : Dec (4 * t .variables ≤ length out) → Row (answer s b out)
+    read (yes room) = walked room
+    read (no l) = subst Row (sym (answer-short t is (omega arith))) (stays 7 0 (4 * t .variables) (λ z. omega arith) (too-short t is (omega arith)))
 
-  answer-row : Row s b out (answer s b out)
+  answer-row : Row (answer s b out)
   answer-row = go (reading s) refl
     where
-      go : (r : Reading) → reading s ≡ r → Row s b out (answer s b out)
-      go (refusal n p) e = subst (Row s b out) (sym (answer-refused n p e)) (unread n p e)
-      go (readable h t) e = read h t e (decLe (4 * t .variables) (length out))
+      go : (r : Reading) → reading s ≡ r → Row (answer s b out)
+      go (refusal n p) e =
+          let r = refused-means s n p e in
+          subst Row (sym (answer-refused n p r)) (stays n 0 p (λ z. let q = refused-number r in omega arith) (refused r))
+      go (readable h t) e = read t (is-table s h t e) (decLe (4 * t .variables) (length out))
 
   -- EVERY INPUT GETS A ROW OF THE TABLE OF NUMBERS
-  pub demand-1-row : NumberAt s b (answer s b out .number) (answer s b out .count) (answer s b out .place)
+  pub demand-1-row : NumberAt s b (length out) (answer s b out .number) (answer s b out .count) (answer s b out .place)
   demand-1-row = answer-row .row
+
+  -- the number, count and place of an answer
+  abbrev Says : Answered → ℕ → ℕ → ℕ → Type 0
+  Says r n k p = (r .number ≡ n) × (r .count ≡ k) × (r .place ≡ p)
+
+  says : (q : Answered) → answer s b out ≡ q → Says (answer s b out) (q .number) (q .count) (q .place)
+  says q e = (ap (λ (x : Answered). x .number) e, ap (λ (x : Answered). x .count) e, ap (λ (x : Answered). x .place) e)
+
+  -- AND NO OTHER ROW IS SAID
+  pub demand-1-only : (n k p : ℕ) → NumberAt s b (length out) n k p → (answer s b out .number ≡ n) × (answer s b out .count ≡ k) × (answer s b out .place ≡ p)
+  demand-1-only n k p (refused r) = says _ (answer-refused n p r)
+  demand-1-only n k p (too-short t i w) = says _ (answer-short t i w)
+  demand-1-only n k p (is-solved t i w l a f) = says _ (demand-2-solved s t i b out w l a f)
+  demand-1-only n k p (is-none t i w l f) = says _ (demand-2-none s t i b out w l f)
+  demand-1-only n k p (is-budget t i w l) = says _ (demand-2-budget s t i b out w l)
 
   pub demand-1-number : answer s b out .number ≤ 9
   demand-1-number = number-bound demand-1-row
+
+  -- 1 TO 6
+  pub demand-1-refused : (n p : ℕ) → 1 ≤ n → n ≤ 6 → ((answer s b out .number ≡ n) × (answer s b out .place ≡ p)) ↔ RefusedAt s n p
+  demand-1-refused n p low high = ((λ w. go demand-1-row (w .0) (w .1)), λ r. let w = demand-1-only n 0 p (refused r) in (w .0, w .2))
+    where
+      go : {m k q : ℕ} → NumberAt s b (length out) m k q → m ≡ n → q ≡ p → RefusedAt s n p
+      go {m} {k} {q} (refused r) e f = subst (RefusedAt s n) f (subst (λ (i : ℕ). RefusedAt s i q) e r)
+      go (too-short t i w) e f = absurd (let z : ⊥ = omega arith in z)
+      go (is-solved t i w l a g) e f = absurd (let z : ⊥ = omega arith in z)
+      go (is-none t i w l g) e f = absurd (let z : ⊥ = omega arith in z)
+      go (is-budget t i w l) e f = absurd (let z : ⊥ = omega arith in z)
+
+  -- 7
+  pub demand-1-short : (answer s b out .number ≡ 7) ↔ ((t : Table) × IsTable s t × (length out < 4 * t .variables))
+  demand-1-short = ((λ e. go demand-1-row e), λ w. demand-1-only 7 0 (4 * w .0 .variables) (too-short (w .0) (w .1) (w .2)) .0)
+    where
+      go : {m k q : ℕ} → NumberAt s b (length out) m k q → m ≡ 7 → (t : Table) × IsTable s t × (length out < 4 * t .variables)
+      go (refused r) e = let z = refused-number r in absurd (let y : ⊥ = omega arith in y)
+      go (too-short t i w) e = (t, i, w)
+      go (is-solved t i w l a g) e = absurd (let z : ⊥ = omega arith in z)
+      go (is-none t i w l g) e = absurd (let z : ⊥ = omega arith in z)
+      go (is-budget t i w l) e = absurd (let z : ⊥ = omega arith in z)
 
   -- A REFUSAL CHANGES NO BYTE OF THE OUTPUT
   pub demand-1-kept : (answer s b out .number ≡ 0 → ⊥) → answer s b out .output ≡ out
@@ -128,3 +161,14 @@ module _ (s : List ℕ) (b : ℕ) (out : List ℕ) where
   pub demand-1-written : answer s b out .number ≡ 0
       → (drop (4 * tableOf s .variables) (answer s b out .output) ≡ drop (4 * tableOf s .variables) out) × (length (answer s b out .output) ≡ length out)
   demand-1-written = answer-row .behind
+
+-- THE READER'S ANSWER: "0 to 6 with the same places, and the five counts (zeros when refused)"
+pub demand-1-read-refused : (s : List ℕ) (n p : ℕ) → RefusedAt s n p
+    → readAnswer (reading s) ≡ record { number = n; place = p; constants = 0; roles = 0; variables = 0; restrictions = 0; lines = 0 }
+unfolding readAnswer
+demand-1-read-refused s n p r = ap readAnswer (means-refusal s n p r)
+
+pub demand-1-read : (s : List ℕ) (t : Table) → IsTable s t
+    → readAnswer (reading s) ≡ record { number = 0; place = 0; constants = t .constants; roles = t .roles; variables = t .variables; restrictions = length (t .rows); lines = length (t .lines) }
+unfolding readAnswer countsOf
+demand-1-read s t is = ap readAnswer (table-read s t is)

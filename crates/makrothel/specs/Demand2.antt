@@ -1,147 +1,141 @@
--- DEMAND 2: what the solver's answer says of the assignments of a readable table, with room and budget.
+-- DEMAND 2: what the solver answers to a readable table with room.
 --
---   FirstSolving t a == a is an assignment of t that solves it, and none before it in counting order does
---   NoneSolves t     == no assignment of t solves it
---   N t              == how many nodes the walk examines
---   known            == the table of a reading is declared
+--   table-is         == a readable table's table
+--   known            == a readable table declares all it names
 --   answer-outcome   == with room the answer is the outcome of the walk
---   Says r           == the answer r is one of the three; answer-says, so it is
---   demand-2-solved  == number 0 exactly if N is within the budget and some assignment solves; it comes with the first, and count N
---   demand-2-none    == number 8 exactly if N is within the budget and none solves; count N, and the output stays
---   demand-2-budget  == number 9 exactly if N is greater than the budget b; count b, and the output stays
---   demand-2-decides == within the budget the number is 0 where some assignment solves, and 8 where none does
+--   first-unique     == there is at most one first assignment that solves
+--   demand-2-solved  == within the budget, the first assignment that solves is answered: number 0, count N, and its sets written
+--   demand-2-none    == within the budget, where none solves: number 8, count N, and the output as it was
+--   demand-2-budget  == beyond the budget b: number 9, count b, and the output as it was
+--   demand-2-decides == within the budget some assignment is the first that solves, or none solves
+--   demand-2-solved-exactly, demand-2-none-exactly, demand-2-budget-exactly == so each number is given exactly then
 use mathlib.Core.Path.{_≡_, refl, sym, ap, subst, _∙_}
-use mathlib.Core.Logic.{_↔_}
+use mathlib.Core.Logic.{_↔_, _⊎_, inl, inr}
 use mathlib.Core.List.{List}
 use Prim.Native.Nat.{ℕ, _*_, _≤_, _<_}
 use native.Mathlib.Omega.{arith}
+use native.Mathlib.Decide.{decLe}
 use lib.Dec.{T}
 use lib.ListN.{length}
 use borrow.Author.Tests.{le-ltb}
 use Rattle.el.specs.Description.{sameRole}
 use Rattle.el.specs.Table.{Table, declared}
 use Rattle.el.specs.Assignment.{Assignment, IsAssignment, Solves, solves, Before}
-use Rattle.el.specs.Walk.{Outcome, solved, nothing, budget, count, outcome}
+use Rattle.el.specs.Walk.{Outcome, solved, nothing, budget, outcome}
+use Rattle.el.specs.CountingLaws.{counting-order}
 use Rattle.el.specs.LocalityLaws.{solves-means}
-use Rattle.el.specs.OutcomeLaws.{OutcomeSays, outcome-says}
-use Rattle.table.specs.Reading.{Header, Reading, readable, reading, isReadable}
-use Rattle.table.specs.LayoutLaws.{layout, readable-header}
+use Rattle.el.specs.OutcomeLaws.{OutcomeSays, outcome-says, outcome-beyond}
+use Rattle.table.specs.Reading.{Reading, theTable, tableOf, isReadable}
+use Rattle.table.specs.Bytes.{IsTable}
+use Rattle.table.specs.BytesLaws.{table-read}
+use Rattle.table.specs.LayoutLaws.{layout}
 use Rattle.output.specs.Written.{written}
+use Rattle.makrothel.specs.Numbers.{FirstSolving, NoneSolves, N}
 use Rattle.makrothel.specs.Solve.{Answered, outcomeAs, tableAs, readingAs, answer}
 
--- "the first acyclic assignment in counting order that makes every line true"
-unfoldable pub FirstSolving : Table → Assignment → Type 0
-FirstSolving t a =
-    IsAssignment t a × Solves sameRole t a × ((m : Assignment) → IsAssignment t m → Solves sameRole t m → Before m a → ⊥)
+pub first-unique : (t : Table) (a b : Assignment) → FirstSolving t a → FirstSolving t b → a ≡ b
+unfolding FirstSolving
+first-unique t a b f g = go (counting-order t .total a b (f .0) (g .0))
+  where
+    go : Before a b ⊎ (a ≡ b) ⊎ Before b a → a ≡ b
+    go (inl l) = absurd (g .2 a (f .0) (f .1) l)
+    go (inr (inl e)) = e
+    go (inr (inr l)) = absurd (f .2 b (g .0) (g .1) l)
 
--- "there is no such assignment"
-unfoldable pub NoneSolves : Table → Type 0
-NoneSolves t = (m : Assignment) → IsAssignment t m → Solves sameRole t m → ⊥
+-- not both: some assignment is the first that solves, and none solves
+first-none : (t : Table) (a : Assignment) → FirstSolving t a → NoneSolves t → ⊥
+unfolding FirstSolving NoneSolves
+first-none t a f n = n a (f .0) (f .1)
 
-abbrev pub N : Table → ℕ
-N t = count sameRole t
+module _ (s : List ℕ) (t : Table) (is : IsTable s t) where
+  pub table-is : t ≡ tableOf s
+  unfolding tableOf
+  table-is = sym (ap theTable (table-read s t is))
 
--- a readable table declares all it names
-pub known : (s : List ℕ) (h : Header) (t : Table) → reading s ≡ readable h t → T (declared t)
-known s h t e =
-    subst (λ (u : Table). T (declared u)) (sym (readable-header s h t e .1))
-    (layout s (subst (λ (r : Reading). T (isReadable r)) (sym e) tt) .all-declared)
+  -- a readable table declares all it names
+  pub known : T (declared t)
+  known =
+      subst (λ (u : Table). T (declared u)) (sym table-is)
+      (layout s (subst (λ (r : Reading). T (isReadable r)) (sym (table-read s t is)) tt) .all-declared)
 
-module _ (s : List ℕ) (h : Header) (t : Table) (read : reading s ≡ readable h t) (b : ℕ) (out : List ℕ) (room : 4 * t .variables ≤ length out) where
+module _ (s : List ℕ) (t : Table) (is : IsTable s t) (b : ℕ) (out : List ℕ) (room : 4 * t .variables ≤ length out) where
   pub answer-outcome : answer s b out ≡ outcomeAs (outcome sameRole t b) out
   unfolding answer tableAs
-  answer-outcome = ap (λ (r : Reading). readingAs r b out) read ∙ rw (le-ltb (length out) (4 * t .variables) room, tableAs)
-
-  -- what an answer says, by its outcome
-  abbrev Found : Answered → Type 0
-  Found r = (N t ≤ b) × ((a : Assignment) × FirstSolving t a × (r ≡ record { number = 0; count = N t; place = 0; output = written a out }))
-
-  abbrev None : Answered → Type 0
-  None r = (N t ≤ b) × NoneSolves t × (r ≡ record { number = 8; count = N t; place = 0; output = out })
-
-  abbrev Over : Answered → Type 0
-  Over r = (b < N t) × (r ≡ record { number = 9; count = b; place = 0; output = out })
-
-  pub data Says (r : Answered) : Type 0 where
-    is-solved : Found r → Says r
-    is-none : None r → Says r
-    is-over : Over r → Says r
-
-  pub answer-says : Says (answer s b out)
-  answer-says = subst Says (sym answer-outcome) (go (outcome sameRole t b) (outcome-says sameRole t (known s h t read) b))
-    where
-      bool : (m : Assignment) → Solves sameRole t m → T (solves sameRole t m)
-      bool m = solves-means sameRole t (known s h t read) m .1
-
-      go : (o : Outcome) → OutcomeSays sameRole t (known s h t read) b o → Says (outcomeAs o out)
-      go (solved n a) w =
-          is-solved (
-            (let q : n ≡ N t = w .0 in let l : n ≤ b = w .1 in omega arith),
-            (
-              a,
-              (unfold FirstSolving in (w .2 .0, solves-means sameRole t (known s h t read) a .0 (w .2 .1), λ m i g l. w .2 .2 m i (bool m g) l)),
-              ap (λ (k : ℕ). record { number = 0; count = k; place = 0; output = written a out }) (w .0),
-            ),
-          )
-      go (nothing n) w =
-          is-none (
-            (let q : n ≡ N t = w .0 in let l : n ≤ b = w .1 in omega arith),
-            (unfold NoneSolves in λ m i g. w .2 m i (bool m g)),
-            ap (λ (k : ℕ). record { number = 8; count = k; place = 0; output = out }) (w .0),
-          )
-      go (budget n) w = is-over (w .1, ap (λ (k : ℕ). record { number = 9; count = k; place = 0; output = out }) (w .0))
-
-  number-of : (r q : Answered) → r ≡ q → r .number ≡ q .number
-  number-of r q e = ap (λ (x : Answered). x .number) e
-
-  other : (m n : ℕ) (r q : Answered) → r .number ≡ m → r ≡ q → q .number ≡ n → m ≡ n
-  other m n r q g e f = sym g ∙ number-of r q e ∙ f
-
-  -- SOLVED
-  pub demand-2-solved : (answer s b out .number ≡ 0)
-      ↔ ((N t ≤ b) × ((a : Assignment) × FirstSolving t a × (answer s b out ≡ record { number = 0; count = N t; place = 0; output = written a out })))
-  demand-2-solved = ((λ g. go answer-says g), λ f. number-of _ _ (f .1 .2))
-    where
-      go : Says (answer s b out) → answer s b out .number ≡ 0 → Found (answer s b out)
-      go (is-solved f) g = f
-      go (is-none f) g = absurd (let z : _≡_ {A = ℕ} 0 8 = other 0 8 _ _ g (f .2) refl in let y : ⊥ = omega arith in y)
-      go (is-over f) g = absurd (let z : _≡_ {A = ℕ} 0 9 = other 0 9 _ _ g (f .1) refl in let y : ⊥ = omega arith in y)
-
-  -- NONE
-  pub demand-2-none : (answer s b out .number ≡ 8)
-      ↔ ((N t ≤ b) × NoneSolves t × (answer s b out ≡ record { number = 8; count = N t; place = 0; output = out }))
-  demand-2-none = ((λ g. go answer-says g), λ f. number-of _ _ (f .2))
-    where
-      go : Says (answer s b out) → answer s b out .number ≡ 8 → None (answer s b out)
-      go (is-none f) g = f
-      go (is-solved f) g = absurd (let z : _≡_ {A = ℕ} 8 0 = other 8 0 _ _ g (f .1 .2) refl in let y : ⊥ = omega arith in y)
-      go (is-over f) g = absurd (let z : _≡_ {A = ℕ} 8 9 = other 8 9 _ _ g (f .1) refl in let y : ⊥ = omega arith in y)
+  answer-outcome = ap (λ (r : Reading). readingAs r b out) (table-read s t is) ∙ rw (le-ltb (length out) (4 * t .variables) room, tableAs)
 
   -- BUDGET
-  pub demand-2-budget : (answer s b out .number ≡ 9) ↔ ((b < N t) × (answer s b out ≡ record { number = 9; count = b; place = 0; output = out }))
-  demand-2-budget = ((λ g. go answer-says g), λ f. number-of _ _ (f .1))
+  pub demand-2-budget : b < N t → answer s b out ≡ record { number = 9; count = b; place = 0; output = out }
+  demand-2-budget over = answer-outcome ∙ ap (λ (o : Outcome). outcomeAs o out) (outcome-beyond sameRole t (known s t is) b over)
+
+  -- the two answers within the budget
+  abbrev pub Found : Type 0
+  Found = (a : Assignment) × FirstSolving t a × (answer s b out ≡ record { number = 0; count = N t; place = 0; output = written a out })
+
+  abbrev pub None : Type 0
+  None = NoneSolves t × (answer s b out ≡ record { number = 8; count = N t; place = 0; output = out })
+
+  pub within : N t ≤ b → Found ⊎ None
+  within l = go (outcome sameRole t b) (outcome-says sameRole t (known s t is) b) answer-outcome
     where
-      go : Says (answer s b out) → answer s b out .number ≡ 9 → Over (answer s b out)
-      go (is-over f) g = f
-      go (is-solved f) g = absurd (let z : _≡_ {A = ℕ} 9 0 = other 9 0 _ _ g (f .1 .2) refl in let y : ⊥ = omega arith in y)
-      go (is-none f) g = absurd (let z : _≡_ {A = ℕ} 9 8 = other 9 8 _ _ g (f .2) refl in let y : ⊥ = omega arith in y)
+      bool : (m : Assignment) → Solves sameRole t m → T (solves sameRole t m)
+      bool m = solves-means sameRole t (known s t is) m .1
 
-  -- within the budget the answer is solved where some assignment solves, and none where none does
-  pub demand-2-decides : N t ≤ b → ((a : Assignment) → IsAssignment t a → Solves sameRole t a → answer s b out .number ≡ 0) × (NoneSolves t → answer s b out .number ≡ 8)
-  demand-2-decides l = (λ a i g. some a i g answer-says, λ n. none n answer-says)
+      go : (o : Outcome) → OutcomeSays sameRole t (known s t is) b o → answer s b out ≡ outcomeAs o out → Found ⊎ None
+      go (solved n a) w e =
+          inl (
+            a,
+            (unfold FirstSolving in (w .2 .0, solves-means sameRole t (known s t is) a .0 (w .2 .1), λ m i g l. w .2 .2 m i (bool m g) l)),
+            e ∙ ap (λ (k : ℕ). record { number = 0; count = k; place = 0; output = written a out }) (w .0),
+          )
+      go (nothing n) w e =
+          inr ((unfold NoneSolves in λ m i g. w .2 m i (bool m g)), e ∙ ap (λ (k : ℕ). record { number = 8; count = k; place = 0; output = out }) (w .0))
+      go (budget n) w e = absurd (let z : b < N t = w .1 in let y : ⊥ = omega arith in y)
+
+  -- SOLVED
+  pub demand-2-solved : N t ≤ b → (a : Assignment) → FirstSolving t a → answer s b out ≡ record { number = 0; count = N t; place = 0; output = written a out }
+  demand-2-solved l a f = go (within l)
     where
-      nowhere : NoneSolves t → (m : Assignment) → IsAssignment t m → Solves sameRole t m → ⊥
-      nowhere n = unfold NoneSolves in n
+      go : Found ⊎ None → answer s b out ≡ record { number = 0; count = N t; place = 0; output = written a out }
+      go (inl w) = w .2 ∙ ap (λ (x : Assignment). record { number = 0; count = N t; place = 0; output = written x out }) (first-unique t (w .0) a (w .1) f)
+      go (inr w) = absurd (first-none t a f (w .0))
 
-      some : (a : Assignment) → IsAssignment t a → Solves sameRole t a → Says (answer s b out) → answer s b out .number ≡ 0
-      some a i g (is-solved f) = number-of _ _ (f .1 .2)
-      some a i g (is-none f) = absurd (nowhere (f .1) a i g)
-      some a i g (is-over f) = absurd (let z : b < N t = f .0 in let y : ⊥ = omega arith in y)
+  -- NONE
+  pub demand-2-none : N t ≤ b → NoneSolves t → answer s b out ≡ record { number = 8; count = N t; place = 0; output = out }
+  demand-2-none l n = go (within l)
+    where
+      go : Found ⊎ None → answer s b out ≡ record { number = 8; count = N t; place = 0; output = out }
+      go (inl w) = absurd (first-none t (w .0) (w .1) n)
+      go (inr w) = w .1
 
-      first : (a : Assignment) → FirstSolving t a → IsAssignment t a × Solves sameRole t a
-      first a f = unfold FirstSolving in (f .0, f .1)
+  -- WITHIN THE BUDGET ONE OF THE TWO IS ANSWERED
+  pub demand-2-decides : N t ≤ b → ((answer s b out .number ≡ 0) × ((a : Assignment) × FirstSolving t a)) ⊎ ((answer s b out .number ≡ 8) × NoneSolves t)
+  demand-2-decides l = go (within l)
+    where
+      go : Found ⊎ None → ((answer s b out .number ≡ 0) × ((a : Assignment) × FirstSolving t a)) ⊎ ((answer s b out .number ≡ 8) × NoneSolves t)
+      go (inl w) = inl (ap (λ (x : Answered). x .number) (w .2), (w .0, w .1))
+      go (inr w) = inr (ap (λ (x : Answered). x .number) (w .1), w .0)
 
-      none : NoneSolves t → Says (answer s b out) → answer s b out .number ≡ 8
-      none n (is-none f) = number-of _ _ (f .2)
-      none n (is-solved f) = absurd (nowhere n (f .1 .0) (first (f .1 .0) (f .1 .1) .0) (first (f .1 .0) (f .1 .1) .1))
-      none n (is-over f) = absurd (let z : b < N t = f .0 in let y : ⊥ = omega arith in y)
+  -- of the three numbers two are never one
+  other : (m n : ℕ) (q : Answered) → answer s b out .number ≡ m → answer s b out ≡ q → q .number ≡ n → m ≡ n
+  other m n q g e f = sym g ∙ ap (λ (x : Answered). x .number) e ∙ f
+
+  pub demand-2-budget-exactly : (answer s b out .number ≡ 9) ↔ (b < N t)
+  demand-2-budget-exactly = ((λ g. go g (decLe (N t) b)), λ over. ap (λ (x : Answered). x .number) (demand-2-budget over))
+    where
+      go : answer s b out .number ≡ 9 → Dec (N t ≤ b) → b < N t
+      go g (no l) = omega arith
+      go g (yes l) = elim (demand-2-decides l) [ inl w ↦ absurd (let z : _≡_ {A = ℕ} 9 0 = sym g ∙ w .0 in let y : ⊥ = omega arith in y) | inr w ↦ absurd (let z : _≡_ {A = ℕ} 9 8 = sym g ∙ w .0 in let y : ⊥ = omega arith in y) ]
+
+  pub demand-2-solved-exactly : (answer s b out .number ≡ 0) ↔ ((N t ≤ b) × ((a : Assignment) × FirstSolving t a))
+  demand-2-solved-exactly = ((λ g. go g (decLe (N t) b)), λ w. ap (λ (x : Answered). x .number) (demand-2-solved (w .0) (w .1 .0) (w .1 .1)))
+    where
+      go : answer s b out .number ≡ 0 → Dec (N t ≤ b) → (N t ≤ b) × ((a : Assignment) × FirstSolving t a)
+      go g (no l) = absurd (let z = other 0 9 _ g (demand-2-budget (omega arith)) refl in let y : ⊥ = omega arith in y)
+      go g (yes l) = elim (demand-2-decides l) [ inl w ↦ (l, w .1) | inr w ↦ absurd (let z : _≡_ {A = ℕ} 0 8 = sym g ∙ w .0 in let y : ⊥ = omega arith in y) ]
+
+  pub demand-2-none-exactly : (answer s b out .number ≡ 8) ↔ ((N t ≤ b) × NoneSolves t)
+  demand-2-none-exactly = ((λ g. go g (decLe (N t) b)), λ w. ap (λ (x : Answered). x .number) (demand-2-none (w .0) (w .1)))
+    where
+      go : answer s b out .number ≡ 8 → Dec (N t ≤ b) → (N t ≤ b) × NoneSolves t
+      go g (no l) = absurd (let z = other 8 9 _ g (demand-2-budget (omega arith)) refl in let y : ⊥ = omega arith in y)
+      go g (yes l) = elim (demand-2-decides l) [ inl w ↦ absurd (let z : _≡_ {A = ℕ} 8 0 = sym g ∙ w .0 in let y : ⊥ = omega arith in y) | inr w ↦ (l, w .1) ]

@@ -26,24 +26,24 @@ use Rattle.el.specs.Walk.{Outcome, solved, nothing, budget, outcome}
 use Rattle.el.specs.OutcomeLaws.{OutcomeSays, outcome-says, more-budget}
 use Rattle.el.specs.LocalityLaws.{locality, solving-substitution}
 use Rattle.el.specs.GrowthLaws.{growth-back, growth-same}
-use Rattle.table.specs.Reading.{Header, Reading, refusal, readable, reading, tableOf}
-use Rattle.table.specs.LayoutLaws.{readable-header}
+use Rattle.table.specs.Reading.{Reading, refusal, readable, reading, tableOf}
+use Rattle.table.specs.Bytes.{IsTable}
+use Rattle.table.specs.RefusalLaws.{refused-number, refused-means}
 use Rattle.output.specs.Written.{setBytes, written}
 use Rattle.output.proofs.Laws.{setBytes-length}
-use Rattle.makrothel.specs.RefusalLaws.{refusal-placed, refused-number}
 use Rattle.makrothel.specs.Solve.{Answered, refusedAs, outcomeAs, answer}
 use Rattle.makrothel.specs.Grown.{Grown, SameLines}
 use Rattle.makrothel.specs.GrownLaws.{grown-grows, grown-lines}
-use Rattle.makrothel.specs.Demand1.{answer-refused, answer-short}
-use Rattle.makrothel.specs.Demand2.{FirstSolving, NoneSolves, N, known, answer-outcome, demand-2-solved, demand-2-none}
+use Rattle.makrothel.specs.Numbers.{FirstSolving, NoneSolves, N}
+use Rattle.makrothel.specs.Demand1.{is-table, answer-refused, answer-short}
+use Rattle.makrothel.specs.Demand2.{table-is, known, answer-outcome, demand-2-solved-exactly, demand-2-none-exactly}
 
 ----------------------------------------------------------------------------------------------------
 -- An answer of 0 or 8 comes from a readable table with room
 
 pub record Walked (s : List ℕ) (out : List ℕ) : Type 0 where
-  pub header : Header
   pub table : Table
-  pub read : reading s ≡ readable header table
+  pub is : IsTable s table
   pub room : 4 * table .variables ≤ length out
 
 module _ (s : List ℕ) (b : ℕ) (out : List ℕ) where
@@ -55,22 +55,19 @@ module _ (s : List ℕ) (b : ℕ) (out : List ℕ) where
           let m : answer s b out .number ≡ n = ap (λ (r : Answered). r .number) e in
           elim w [ inl z ↦ f (sym m ∙ z) | inr z ↦ g (sym m ∙ z) ]
 
-      room-of : (h : Header) (t : Table) → reading s ≡ readable h t → Dec (4 * t .variables ≤ length out) → Walked s out
-      room-of h t e (yes r) = record { header = h; table = t; read = e; room = r }
-      room-of h t e (no r) = absurd (neither 7 (4 * t .variables) (answer-short s b out h t e (omega arith)) (λ z. omega arith) (λ z. omega arith))
+      room-of : (t : Table) → IsTable s t → Dec (4 * t .variables ≤ length out) → Walked s out
+      room-of t i (yes r) = record { table = t; is = i; room = r }
+      room-of t i (no r) = absurd (neither 7 (4 * t .variables) (answer-short s b out t i (omega arith)) (λ z. omega arith) (λ z. omega arith))
 
       go : (r : Reading) → reading s ≡ r → Walked s out
       go (refusal n p) e =
-          let q = refused-number (refusal-placed s n p e) in
-          absurd (neither n p (answer-refused s b out n p e) (λ z. omega arith) (λ z. omega arith))
-      go (readable h t) e = room-of h t e (decLe (4 * t .variables) (length out))
+          let r = refused-means s n p e in
+          let q = refused-number r in
+          absurd (neither n p (answer-refused s b out n p r) (λ z. omega arith) (λ z. omega arith))
+      go (readable h t) e = room-of t (is-table s h t e) (decLe (4 * t .variables) (length out))
 
--- the table of a reading
-the-table : (s : List ℕ) (h : Header) (t : Table) → reading s ≡ readable h t → t ≡ tableOf s
-the-table s h t e = readable-header s h t e .1
-
-known-table : (s : List ℕ) (h : Header) (t : Table) → reading s ≡ readable h t → T (declared (tableOf s))
-known-table s h t e = subst (λ (u : Table). T (declared u)) (the-table s h t e) (known s h t e)
+known-table : (s : List ℕ) (t : Table) → IsTable s t → T (declared (tableOf s))
+known-table s t i = subst (λ (u : Table). T (declared u)) (table-is s t i) (known s t i)
 
 ----------------------------------------------------------------------------------------------------
 -- What an answer says of substitutions
@@ -80,9 +77,9 @@ module _ (s : List ℕ) (b : ℕ) (out : List ℕ) where
   pub demand-3-none : answer s b out .number ≡ 8 → (γ : Substitution) → T (makes sameRole (tableOf s) γ) → ⊥
   demand-3-none e γ m =
       let w = walked s b out (inr e) in
-      let f = demand-2-none s (w .header) (w .table) (w .read) b out (w .room) .0 e in
-      let γ-makes : T (makes sameRole (w .table) γ) = subst (λ (u : Table). T (makes sameRole u γ)) (sym (the-table s (w .header) (w .table) (w .read))) m in
-      let l = locality sameRole sameRole-refl sameRole-trans (w .table) (known s (w .header) (w .table) (w .read)) γ γ-makes in
+      let f = demand-2-none-exactly s (w .table) (w .is) b out (w .room) .0 e in
+      let γ-makes : T (makes sameRole (w .table) γ) = subst (λ (u : Table). T (makes sameRole u γ)) (sym (table-is s (w .table) (w .is))) m in
+      let l = locality sameRole sameRole-refl sameRole-trans (w .table) (known s (w .table) (w .is)) γ γ-makes in
       nowhere (w .table) (f .1) (l .0) (l .1) (l .3)
     where
       nowhere : (t : Table) → NoneSolves t → (a : Assignment) → IsAssignment t a → Solves sameRole t a → ⊥
@@ -92,10 +89,10 @@ module _ (s : List ℕ) (b : ℕ) (out : List ℕ) where
   pub demand-3-solved : answer s b out .number ≡ 0 → (γ : Substitution) × T (makes sameRole (tableOf s) γ)
   demand-3-solved e =
       let w = walked s b out (inl e) in
-      let f = demand-2-solved s (w .header) (w .table) (w .read) b out (w .room) .0 e in
+      let f = demand-2-solved-exactly s (w .table) (w .is) b out (w .room) .0 e in
       let a : Assignment = f .1 .0 in (
         induced (w .table) a,
-        subst (λ (u : Table). T (makes sameRole u (induced (w .table) a))) (the-table s (w .header) (w .table) (w .read))
+        subst (λ (u : Table). T (makes sameRole u (induced (w .table) a))) (table-is s (w .table) (w .is))
             (solving-substitution sameRole (w .table) a (solution (w .table) a (f .1 .1))),
       )
     where
@@ -111,7 +108,7 @@ module _ (s u : List ℕ) (grown : Grown s u) (b c : ℕ) (out more : List ℕ) 
   demand-3-grown e f =
       let w = walked s b out (inr e) in
       let g = demand-3-solved u c more f in
-      demand-3-none s b out e (g .0) (growth-back sameRole (tableOf s) (tableOf u) (known-table s (w .header) (w .table) (w .read)) (grown-grows s u grown) (g .0) (g .1))
+      demand-3-none s b out e (g .0) (growth-back sameRole (tableOf s) (tableOf u) (known-table s (w .table) (w .is)) (grown-grows s u grown) (g .0) (g .1))
 
   -- NO GROWTH WITHOUT NEW LINES OF A "SOLVED" TABLE IS EVER "NONE"
   pub demand-3-widened : SameLines s u → answer s b out .number ≡ 0 → answer u c more .number ≡ 8 → ⊥
@@ -119,7 +116,7 @@ module _ (s u : List ℕ) (grown : Grown s u) (b c : ℕ) (out more : List ℕ) 
       let w = walked s b out (inl e) in
       let g = demand-3-solved s b out e in
       demand-3-none u c more f (g .0)
-      (growth-same sameRole (tableOf s) (tableOf u) (known-table s (w .header) (w .table) (w .read)) (grown-grows s u grown) (grown-lines s u grown same) (g .0) (g .1))
+      (growth-same sameRole (tableOf s) (tableOf u) (known-table s (w .table) (w .is)) (grown-grows s u grown) (grown-lines s u grown same) (g .0) (g .1))
 
 ----------------------------------------------------------------------------------------------------
 -- A larger budget
@@ -161,21 +158,21 @@ module _ (s : List ℕ) (b c : ℕ) (out more : List ℕ) where
       t = k .table
 
       here : t ≡ tableOf s
-      here = the-table s (k .header) t (k .read)
+      here = table-is s t (k .is)
 
       known-t : T (declared t)
-      known-t = known s (k .header) t (k .read)
+      known-t = known s t (k .is)
 
       first : answer s b out ≡ outcomeAs (outcome sameRole t b) out
-      first = answer-outcome s (k .header) t (k .read) b out (k .room)
+      first = answer-outcome s t (k .is) b out (k .room)
 
       within : (answer s b out .number ≡ 0) ⊎ (answer s b out .number ≡ 8) → N t ≤ b
-      within (inl e) = demand-2-solved s (k .header) t (k .read) b out (k .room) .0 e .0
-      within (inr e) = demand-2-none s (k .header) t (k .read) b out (k .room) .0 e .0
+      within (inl e) = demand-2-solved-exactly s t (k .is) b out (k .room) .0 e .0
+      within (inr e) = demand-2-none-exactly s t (k .is) b out (k .room) .0 e .0
 
       second : answer s c more ≡ outcomeAs (outcome sameRole t b) more
       second =
-          answer-outcome s (k .header) t (k .read) c more (subst (λ (u : Table). 4 * u .variables ≤ length more) (sym here) r)
+          answer-outcome s t (k .is) c more (subst (λ (u : Table). 4 * u .variables ≤ length more) (sym here) r)
           ∙ ap (λ (o : Outcome). outcomeAs o more) (more-budget sameRole t known-t b c (within w) l)
 
       sized : Sized t (outcome sameRole t b)

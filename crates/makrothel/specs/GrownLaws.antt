@@ -17,7 +17,8 @@ use Rattle.table.specs.declared.Kind.the-variants.{Top, Constant, Restriction, 
 use Rattle.table.specs.Code.{kindOf, fillerOfKind, fillerOf, entryOfKind, entryOf}
 use Rattle.table.specs.Reading.{byteAt, tableOf}
 use Rattle.table.specs.Layout.{lineAt, lineStart, Layout}
-use Rattle.table.specs.LayoutLaws.{within-some, layout}
+use Rattle.table.specs.CodeLaws.{within-some}
+use Rattle.table.specs.LayoutLaws.{layout}
 use Rattle.makrothel.specs.Grown.{rowBytes, lineBytes, Grown, SameLines}
 
 ----------------------------------------------------------------------------------------------------

@@ -1,54 +1,86 @@
--- The demands at concrete tables, so that no hypothesis of theirs is empty.
+-- The demands at concrete tables, so that no hypothesis of theirs is empty. P5 and P12 are answered "none", P8 "solved", and P8 under the
+-- budget 13 "budget"; an empty input, and P8 with one byte more or with too short an output, are refused.
 --
---   p5-answer, p8-answer, p9-answer, p12-answer == the answers to four cases
---   p5-more, p8-more, p12-more       == a growth of each
---   refusal-instance                 == demand 1 at the empty input
---   p5-kept, p8-behind               == demand 1: what stays of the output
---   p8-first, p5-nothing, p9-over    == demand 2
---   p5-any-depth, p12-any-depth      == demand 3: no substitution whatever
---   p5-grown-never, p12-grown-never  == demand 3: no growth is solved, under any budget and output
---   p8-widened-never                 == demand 3: no growth without new lines is none
---   p8-larger-budget                 == demand 3: a larger budget
+--   p5-table, p8-table, p12-table == they are readable
+--   p5-more, p8-more, p12-more    == a growth of each
+--   empty-.., longer-.., short-.. == demand 1 at inputs that are refused
+--   p5-.., p8-.., p9-.., p12-..   == the demands at the cases
 use mathlib.Core.Path.{_≡_, refl, sym, ap, _∙_}
-use mathlib.Core.Logic.{inl}
-use mathlib.Core.List.{List, [], _∷_}
+use mathlib.Core.Logic.{_⊎_, inl, inr}
+use mathlib.Core.List.{List, [], _∷_, _++_}
 use Prim.Native.Nat.{ℕ, _*_, _≤_, _<_}
 use native.Mathlib.Omega.{arith}
 use lib.Dec.{T}
-use lib.ListN.{length}
+use lib.ListN.{length, drop}
+use Rattle.el.specs.Test.{everyOf}
 use Rattle.el.specs.Description.{sameRole}
+use Rattle.el.specs.Table.{Table}
 use Rattle.el.specs.Meaning.{Substitution, makes}
 use Rattle.el.specs.Assignment.{Assignment}
-use Rattle.el.specs.Walk.{solved, nothing, budget}
 use Rattle.table.specs.Code.{kindOf, within, fillerOfKind, fillerOf, entryOfKind, entryOf}
-use Rattle.table.specs.Reading.{marked, versionOne, readHeader, readRow, readRows, readEntry, readEntries, readLine, readLines, readBody, readable, reading, headerOf, tableOf}
-use Rattle.output.specs.Written.{written}
-use Rattle.makrothel.specs.Solve.{Answered, outcomeAs, answer}
+use Rattle.table.specs.Reading.{marked, versionOne, readHeader, readMany, readRow, readEntry, readLine, readBody, refusal, readable, reading, headerOf, tableOf}
+use Rattle.table.specs.Bytes.{IsTable}
+use Rattle.table.specs.Refusal.{RefusedAt, header-cut}
+use Rattle.table.specs.RefusalLaws.{refused-means}
+use Rattle.output.specs.Written.{setBytes, written}
+use Rattle.makrothel.specs.declared.ReadAnswer.{ReadAnswer}
+use Rattle.makrothel.specs.Answer.{readAnswer}
+use Rattle.makrothel.specs.Numbers.{FirstSolving, NoneSolves, N, NumberAt, refused}
+use Rattle.makrothel.specs.Solve.{Answered, answer}
 use Rattle.makrothel.specs.Grown.{rowBytes, lineBytes, Grown, SameLines}
-use Rattle.makrothel.specs.Demand1.{demand-1-kept, demand-1-written}
-use Rattle.makrothel.specs.Demand2.{FirstSolving, NoneSolves, N, demand-2-solved, demand-2-none, demand-2-budget}
-use Rattle.makrothel.specs.Demand3.{SameAnswer, demand-3-none, demand-3-grown, demand-3-widened, demand-3-budget}
+use Rattle.makrothel.specs.Demand1.{is-table, demand-1-row, demand-1-only, demand-1-number, demand-1-refused, demand-1-short, demand-1-kept, demand-1-written, demand-1-read-refused, demand-1-read}
+use Rattle.makrothel.specs.Demand2.{demand-2-solved, demand-2-none, demand-2-budget, demand-2-decides, demand-2-solved-exactly, demand-2-none-exactly, demand-2-budget-exactly}
+use Rattle.makrothel.specs.Demand3.{SameAnswer, demand-3-none, demand-3-solved, demand-3-grown, demand-3-widened, demand-3-budget}
 use Rattle.makrothel.specs.Cases.{p5, p8, p12, Answers, cases-hold}
 
 -- an output of eight bytes has room for two variables
 abbrev eight : List ℕ
 eight = 1 ∷ 2 ∷ 3 ∷ 4 ∷ 5 ∷ 6 ∷ 7 ∷ 8 ∷ []
 
-pub p5-answer : answer (p5 .bytes) 3 eight ≡ outcomeAs (nothing 3) eight
-unfolding Answers
-p5-answer = cases-hold .1 .1 .1 .1 .0 eight (omega arith)
+----------------------------------------------------------------------------------------------------
+-- The cases are readable, and their answers
 
-pub p8-answer : answer (p8 .bytes) 14 eight ≡ outcomeAs (solved 14 (2 ∷ 1 ∷ [])) eight
-unfolding Answers
-p8-answer = cases-hold .1 .1 .1 .1 .1 .1 .1 .0 eight (omega arith)
+pub p5-table : IsTable (p5 .bytes) (tableOf (p5 .bytes))
+unfolding tableOf reading readBody readLine readEntry readRow readMany readHeader versionOne marked entryOf entryOfKind fillerOf fillerOfKind within kindOf
+p5-table = is-table (p5 .bytes) (headerOf (p5 .bytes)) (tableOf (p5 .bytes)) refl
 
-pub p9-answer : answer (p8 .bytes) 13 eight ≡ outcomeAs (budget 13) eight
-unfolding Answers
-p9-answer = cases-hold .1 .1 .1 .1 .1 .1 .1 .1 .0 eight (omega arith)
+pub p8-table : IsTable (p8 .bytes) (tableOf (p8 .bytes))
+unfolding tableOf reading readBody readLine readEntry readRow readMany readHeader versionOne marked entryOf entryOfKind fillerOf fillerOfKind within kindOf
+p8-table = is-table (p8 .bytes) (headerOf (p8 .bytes)) (tableOf (p8 .bytes)) refl
 
-pub p12-answer : answer (p12 .bytes) 33 eight ≡ outcomeAs (nothing 33) eight
-unfolding Answers
-p12-answer = cases-hold .1 .1 .1 .1 .1 .1 .1 .1 .1 .1 .1 .0 eight (omega arith)
+pub p12-table : IsTable (p12 .bytes) (tableOf (p12 .bytes))
+unfolding tableOf reading readBody readLine readEntry readRow readMany readHeader versionOne marked entryOf entryOfKind fillerOf fillerOfKind within kindOf
+p12-table = is-table (p12 .bytes) (headerOf (p12 .bytes)) (tableOf (p12 .bytes)) refl
+
+-- how many variables they have
+variables : (tableOf (p5 .bytes) .variables ≡ 1) × (tableOf (p8 .bytes) .variables ≡ 2) × (tableOf (p12 .bytes) .variables ≡ 1)
+unfolding tableOf reading readBody readLine readEntry readRow readMany readHeader versionOne marked entryOf entryOfKind fillerOf fillerOfKind within kindOf
+variables = (refl, refl, refl)
+
+room-p5 : 4 * tableOf (p5 .bytes) .variables ≤ length eight
+room-p5 = let v : tableOf (p5 .bytes) .variables ≡ 1 = variables .0 in omega arith
+
+room-p8 : 4 * tableOf (p8 .bytes) .variables ≤ length eight
+room-p8 = let v : tableOf (p8 .bytes) .variables ≡ 2 = variables .1 in omega arith
+
+room-p12 : 4 * tableOf (p12 .bytes) .variables ≤ length eight
+room-p12 = let v : tableOf (p12 .bytes) .variables ≡ 1 = variables .2 in omega arith
+
+pub p5-answer : answer (p5 .bytes) 3 eight ≡ record { number = 8; count = 3; place = 0; output = eight }
+unfolding Answers written setBytes
+p5-answer = cases-hold .1 .1 .1 .1 .0 3 (omega arith) eight (omega arith)
+
+pub p8-answer : answer (p8 .bytes) 14 eight ≡ record { number = 0; count = 14; place = 0; output = 2 ∷ 0 ∷ 0 ∷ 0 ∷ 1 ∷ 0 ∷ 0 ∷ 0 ∷ [] }
+unfolding Answers written setBytes
+p8-answer = cases-hold .1 .1 .1 .1 .1 .1 .1 .0 14 (omega arith) eight (omega arith)
+
+pub p9-answer : answer (p8 .bytes) 13 eight ≡ record { number = 9; count = 13; place = 0; output = eight }
+unfolding Answers written setBytes
+p9-answer = cases-hold .1 .1 .1 .1 .1 .1 .1 .1 .0 13 refl eight (omega arith)
+
+pub p12-answer : answer (p12 .bytes) 33 eight ≡ record { number = 8; count = 33; place = 0; output = eight }
+unfolding Answers written setBytes
+p12-answer = cases-hold .1 .1 .1 .1 .1 .1 .1 .1 .1 .1 .1 .0 33 (omega arith) eight (omega arith)
 
 p5-none : answer (p5 .bytes) 3 eight .number ≡ 8
 p5-none = ap (λ (r : Answered). r .number) p5-answer
@@ -65,15 +97,53 @@ p12-none = ap (λ (r : Answered). r .number) p12-answer
 ----------------------------------------------------------------------------------------------------
 -- Demand 1
 
-pub refusal-instance : answer [] 5 eight .output ≡ eight
-unfolding answer reading readHeader
-refusal-instance = demand-1-kept [] 5 eight (λ z. omega arith)
+-- an empty input is cut short
+empty-refused : RefusedAt [] 1 0
+empty-refused = header-cut (omega arith)
+
+pub empty-only : (answer [] 5 eight .number ≡ 1) × (answer [] 5 eight .count ≡ 0) × (answer [] 5 eight .place ≡ 0)
+empty-only = demand-1-only [] 5 eight 1 0 0 (refused empty-refused)
+
+pub empty-kept : answer [] 5 eight .output ≡ eight
+empty-kept = demand-1-kept [] 5 eight (λ z. let q : _≡_ {A = ℕ} 0 1 = sym z ∙ empty-only .0 in omega arith)
+
+pub empty-read : readAnswer (reading []) ≡ record { number = 1; place = 0; constants = 0; roles = 0; variables = 0; restrictions = 0; lines = 0 }
+empty-read = demand-1-read-refused [] 1 0 empty-refused
+
+-- P8 has 18 bytes; one byte more is refused with 6 at 18
+pub longer-refused : RefusedAt (p8 .bytes ++ (0 ∷ [])) 6 18
+unfolding reading readBody readLine readEntry readRow readMany readHeader versionOne marked entryOf entryOfKind fillerOf fillerOfKind within kindOf
+longer-refused = refused-means (p8 .bytes ++ (0 ∷ [])) 6 18 refl
+
+pub longer-answer : (answer (p8 .bytes ++ (0 ∷ [])) 14 eight .number ≡ 6) × (answer (p8 .bytes ++ (0 ∷ [])) 14 eight .place ≡ 18)
+longer-answer = demand-1-refused (p8 .bytes ++ (0 ∷ [])) 14 eight 6 18 (omega arith) (omega arith) .1 longer-refused
+
+-- P8 and an output of no bytes
+pub short-answer : answer (p8 .bytes) 14 [] .number ≡ 7
+short-answer = demand-1-short (p8 .bytes) 14 [] .1 (tableOf (p8 .bytes), p8-table, (let v : tableOf (p8 .bytes) .variables ≡ 2 = variables .1 in omega arith))
+
+-- the rows of the table of numbers that the cases are, and their numbers
+pub p8-row : NumberAt (p8 .bytes) 14 8 (answer (p8 .bytes) 14 eight .number) (answer (p8 .bytes) 14 eight .count) (answer (p8 .bytes) 14 eight .place)
+p8-row = demand-1-row (p8 .bytes) 14 eight
+
+pub p12-row : NumberAt (p12 .bytes) 33 8 (answer (p12 .bytes) 33 eight .number) (answer (p12 .bytes) 33 eight .count) (answer (p12 .bytes) 33 eight .place)
+p12-row = demand-1-row (p12 .bytes) 33 eight
+
+pub p12-number : answer (p12 .bytes) 33 eight .number ≤ 9
+p12-number = demand-1-number (p12 .bytes) 33 eight
 
 pub p5-kept : answer (p5 .bytes) 3 eight .output ≡ eight
 p5-kept = demand-1-kept (p5 .bytes) 3 eight (λ z. let q : _≡_ {A = ℕ} 0 8 = sym z ∙ p5-none in omega arith)
 
+pub p12-kept : answer (p12 .bytes) 33 eight .output ≡ eight
+p12-kept = demand-1-kept (p12 .bytes) 33 eight (λ z. let q : _≡_ {A = ℕ} 0 8 = sym z ∙ p12-none in omega arith)
+
 pub p8-behind : length (answer (p8 .bytes) 14 eight .output) ≡ 8
 p8-behind = demand-1-written (p8 .bytes) 14 eight p8-solved .1
+
+pub p12-read : readAnswer (reading (p12 .bytes)) ≡ record { number = 0; place = 0; constants = 2; roles = 1; variables = 1; restrictions = 3; lines = 3 }
+unfolding tableOf reading readBody readLine readEntry readRow readMany readHeader versionOne marked entryOf entryOfKind fillerOf fillerOfKind within kindOf
+p12-read = demand-1-read (p12 .bytes) (tableOf (p12 .bytes)) p12-table
 
 ----------------------------------------------------------------------------------------------------
 -- Growths
@@ -93,7 +163,7 @@ p12-more =
     ∷ 1 ∷ 0x60 ∷ 0x20 ∷ 1 ∷ 0x60 ∷ 0x21 ∷ 2 ∷ 0x40 ∷ 0x41 ∷ 0x42 ∷ 1 ∷ 0x43 ∷ 0x60 ∷ []
 
 p5-grown : Grown (p5 .bytes) p5-more
-unfolding rowBytes lineBytes reading readBody readLines readLine readEntries readEntry readRows readRow readHeader versionOne marked entryOf entryOfKind fillerOf fillerOfKind within kindOf
+unfolding rowBytes lineBytes reading readBody readLine readEntry readRow readMany readHeader versionOne marked entryOf entryOfKind fillerOf fillerOfKind within kindOf
 p5-grown =
     record {
       readable-before = tt;
@@ -110,7 +180,7 @@ p5-grown =
     }
 
 p8-grown : Grown (p8 .bytes) p8-more
-unfolding rowBytes lineBytes reading readBody readLines readLine readEntries readEntry readRows readRow readHeader versionOne marked entryOf entryOfKind fillerOf fillerOfKind within kindOf
+unfolding rowBytes lineBytes reading readBody readLine readEntry readRow readMany readHeader versionOne marked entryOf entryOfKind fillerOf fillerOfKind within kindOf
 p8-grown =
     record {
       readable-before = tt;
@@ -127,7 +197,7 @@ p8-grown =
     }
 
 p12-grown : Grown (p12 .bytes) p12-more
-unfolding rowBytes lineBytes reading readBody readLines readLine readEntries readEntry readRows readRow readHeader versionOne marked entryOf entryOfKind fillerOf fillerOfKind within kindOf
+unfolding rowBytes lineBytes reading readBody readLine readEntry readRow readMany readHeader versionOne marked entryOf entryOfKind fillerOf fillerOfKind within kindOf
 p12-grown =
     record {
       readable-before = tt;
@@ -146,35 +216,34 @@ p12-grown =
 ----------------------------------------------------------------------------------------------------
 -- Demand 2
 
-read-p5 : reading (p5 .bytes) ≡ readable (headerOf (p5 .bytes)) (tableOf (p5 .bytes))
-unfolding tableOf reading readBody readLines readLine readEntries readEntry readRows readRow readHeader versionOne marked entryOf entryOfKind fillerOf fillerOfKind within kindOf
-read-p5 = refl
+-- P8 has a first solving assignment, and N is within 14
+pub p8-first : (N (tableOf (p8 .bytes)) ≤ 14) × ((a : Assignment) × FirstSolving (tableOf (p8 .bytes)) a)
+p8-first = demand-2-solved-exactly (p8 .bytes) (tableOf (p8 .bytes)) p8-table 14 eight room-p8 .0 p8-solved
 
-read-p8 : reading (p8 .bytes) ≡ readable (headerOf (p8 .bytes)) (tableOf (p8 .bytes))
-unfolding tableOf reading readBody readLines readLine readEntries readEntry readRows readRow readHeader versionOne marked entryOf entryOfKind fillerOf fillerOfKind within kindOf
-read-p8 = refl
+-- which is what is written
+pub p8-written : answer (p8 .bytes) 14 eight .output ≡ written (p8-first .1 .0) eight
+p8-written = ap (λ (r : Answered). r .output) (demand-2-solved (p8 .bytes) (tableOf (p8 .bytes)) p8-table 14 eight room-p8 (p8-first .0) (p8-first .1 .0) (p8-first .1 .1))
 
-room-p5 : 4 * tableOf (p5 .bytes) .variables ≤ length eight
-unfolding tableOf reading readBody readLines readLine readEntries readEntry readRows readRow readHeader versionOne marked entryOf entryOfKind fillerOf fillerOfKind within kindOf
-room-p5 = omega arith
+-- P5 and P12 have none
+pub p5-nothing : (N (tableOf (p5 .bytes)) ≤ 3) × NoneSolves (tableOf (p5 .bytes))
+p5-nothing = demand-2-none-exactly (p5 .bytes) (tableOf (p5 .bytes)) p5-table 3 eight room-p5 .0 p5-none
 
-room-p8 : 4 * tableOf (p8 .bytes) .variables ≤ length eight
-unfolding tableOf reading readBody readLines readLine readEntries readEntry readRows readRow readHeader versionOne marked entryOf entryOfKind fillerOf fillerOfKind within kindOf
-room-p8 = omega arith
+pub p12-nothing : (N (tableOf (p12 .bytes)) ≤ 33) × NoneSolves (tableOf (p12 .bytes))
+p12-nothing = demand-2-none-exactly (p12 .bytes) (tableOf (p12 .bytes)) p12-table 33 eight room-p12 .0 p12-none
 
--- P8's answer is its first solving assignment
-pub p8-first : (a : Assignment) × FirstSolving (tableOf (p8 .bytes)) a × (answer (p8 .bytes) 14 eight .output ≡ written a eight)
-p8-first =
-    let f = demand-2-solved (p8 .bytes) (headerOf (p8 .bytes)) (tableOf (p8 .bytes)) read-p8 14 eight room-p8 .0 p8-solved in
-    (f .1 .0, f .1 .1, ap (λ (r : Answered). r .output) (f .1 .2))
+-- so with any larger budget they are answered "none"
+pub p12-larger : answer (p12 .bytes) 1000 eight .number ≡ 8
+p12-larger = ap (λ (r : Answered). r .number) (demand-2-none (p12 .bytes) (tableOf (p12 .bytes)) p12-table 1000 eight room-p12 (let l : N (tableOf (p12 .bytes)) ≤ 33 = p12-nothing .0 in omega arith) (p12-nothing .1))
 
--- P5 has no solving assignment
-pub p5-nothing : NoneSolves (tableOf (p5 .bytes))
-p5-nothing = demand-2-none (p5 .bytes) (headerOf (p5 .bytes)) (tableOf (p5 .bytes)) read-p5 3 eight room-p5 .0 p5-none .1
+pub p12-decided : ((answer (p12 .bytes) 33 eight .number ≡ 0) × ((a : Assignment) × FirstSolving (tableOf (p12 .bytes)) a)) ⊎ ((answer (p12 .bytes) 33 eight .number ≡ 8) × NoneSolves (tableOf (p12 .bytes)))
+p12-decided = demand-2-decides (p12 .bytes) (tableOf (p12 .bytes)) p12-table 33 eight room-p12 (p12-nothing .0)
 
--- P8 needs more than 13 nodes
+-- P8 needs more than 13 nodes, and so fewer do not do either
 pub p9-over : 13 < N (tableOf (p8 .bytes))
-p9-over = demand-2-budget (p8 .bytes) (headerOf (p8 .bytes)) (tableOf (p8 .bytes)) read-p8 13 eight room-p8 .0 p9-spent .0
+p9-over = demand-2-budget-exactly (p8 .bytes) (tableOf (p8 .bytes)) p8-table 13 eight room-p8 .0 p9-spent
+
+pub p9-fewer : answer (p8 .bytes) 7 eight ≡ record { number = 9; count = 7; place = 0; output = eight }
+p9-fewer = demand-2-budget (p8 .bytes) (tableOf (p8 .bytes)) p8-table 7 eight room-p8 (let l : 13 < N (tableOf (p8 .bytes)) = p9-over in omega arith)
 
 ----------------------------------------------------------------------------------------------------
 -- Demand 3
@@ -184,6 +253,9 @@ p5-any-depth = demand-3-none (p5 .bytes) 3 eight p5-none
 
 pub p12-any-depth : (γ : Substitution) → T (makes sameRole (tableOf (p12 .bytes)) γ) → ⊥
 p12-any-depth = demand-3-none (p12 .bytes) 33 eight p12-none
+
+pub p8-some : (γ : Substitution) × T (makes sameRole (tableOf (p8 .bytes)) γ)
+p8-some = demand-3-solved (p8 .bytes) 14 eight p8-solved
 
 pub p5-grown-never : (b : ℕ) (out : List ℕ) → answer p5-more b out .number ≡ 0 → ⊥
 p5-grown-never b out = demand-3-grown (p5 .bytes) p5-more p5-grown 3 b eight out p5-none
@@ -197,3 +269,6 @@ p8-widened-never b out = demand-3-widened (p8 .bytes) p8-more p8-grown 14 b eigh
 
 pub p8-larger-budget : (b : ℕ) → 14 ≤ b → SameAnswer (p8 .bytes) (answer (p8 .bytes) 14 eight) (answer (p8 .bytes) b eight)
 p8-larger-budget b h = demand-3-budget (p8 .bytes) 14 b eight eight (inl p8-solved) h room-p8
+
+pub p12-larger-budget : (b : ℕ) → 33 ≤ b → SameAnswer (p12 .bytes) (answer (p12 .bytes) 33 eight) (answer (p12 .bytes) b eight)
+p12-larger-budget b h = demand-3-budget (p12 .bytes) 33 b eight eight (inr p12-none) h room-p12

@@ -2,9 +2,8 @@ pub mod Answer
 pub mod Unique
 pub mod Solve
 pub mod Grown
-pub mod Refusal
-pub mod RefusalLaws
 pub mod GrownLaws
+pub mod Numbers
 pub mod Demand1
 pub mod Demand2
 pub mod Demand3

@@ -22,7 +22,7 @@ use Rattle.el.specs.Walk.{fillerVariables, entryVariables}
 use Rattle.table.specs.declared.Kind.{Kind}
 use Rattle.table.specs.declared.Kind.the-variants.{Top, Constant, Restriction, Variable, Other}
 use Rattle.table.specs.Code.{kindOf, fillerOfKind, fillerOf, entryOfKind, entryOf}
-use Rattle.table.specs.LayoutLaws.{within-some}
+use Rattle.table.specs.CodeLaws.{within-some}
 use Rattle.order.specs.BitLaws.{power-fits, bit-power}
 use Rattle.node.specs.Node.{Masks, isAmong}
 

@@ -42,7 +42,8 @@ use Rattle.table.specs.declared.Kind.the-variants.{Top, Constant, Restriction, 
 use Rattle.table.specs.Code.{kindOf, fillerOf, fillerOfKind, entryOf, entryOfKind}
 use Rattle.table.specs.Reading.{byteAt, reading, isReadable, tableOf}
 use Rattle.table.specs.Layout.{lineAt, lineStart, Layout}
-use Rattle.table.specs.LayoutLaws.{within-some, layout}
+use Rattle.table.specs.CodeLaws.{within-some}
+use Rattle.table.specs.LayoutLaws.{layout}
 use Rattle.order.specs.BitLaws.{power-fits, high-none, bit-missing}
 use Rattle.order.specs.Rule.{fillerSet, entrySet, unionTo, leftSet, atomRow, isConstant, flatTest, atomTest, setTest, fillerTest, leftTest, lineTest}
 use Rattle.order.specs.RuleLaws.{any-one, left-union, set-itself, line-rule}

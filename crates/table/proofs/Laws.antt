@@ -1,6 +1,5 @@
 -- Laws that carry the reader's code to the reading's definition.
 --
---   kind-..                      == the kind of a code in each range
 --   some-within                  == a number is in range exactly if something is read
 --   filler-.., entry-..          == whether a code is a filler, an entry, by its kind
 --   stop-if, pass-if             == a refusal where its test passes, and past it
@@ -8,7 +7,7 @@
 --   then-stop, then-next, then-last == a step after a step
 --   turn-start, turn-stop, turn-next, turn-end == the turns of a loop over many of a kind
 --   mark-.., version-..          == the tests of the mark and the version, by the byte at which they end
---   header-.., row-.., rows-.., entry-.., entries-.., line-.., lines-.., body-.., check-.. == each answer of the function so named
+--   header-.., row-.., entry-.., line-.., body-.., check-.. == each answer of the function so named
 use mathlib.Core.Path.{_≡_, refl, sym, ap, _∙_}
 use mathlib.Core.Bool.{Bool, true, false, not, cond, true≢false}
 use mathlib.Core.List.{List, [], _∷_}
@@ -24,45 +23,11 @@ use Rattle.table.specs.declared.Step.{Step}
 use Rattle.table.specs.declared.Step.the-variants.{Next, Stop}
 use Rattle.table.specs.declared.Verdict.the-variants.{Refused, Readable}
 use Rattle.table.specs.Code.{kindOf, within, fillerOfKind, fillerOf, entryOfKind, entryOf}
-use Rattle.table.specs.Reading.{Read, refused, got, refuseIf, andThen, orRefused, byteAt, Header, headerOf, marked, versionOne, readHeader, readRow, readRows, readEntry, readEntries, readLine, readLines, readBody, whole, fromHeader, reading, maxAtoms, maxRoles, maxVariables, maxLines, maxLeft}
+use Rattle.table.specs.Reading.{Read, refused, got, refuseIf, andThen, orRefused, byteAt, Header, headerOf, marked, versionOne, readHeader, readMany, readRow, readRows, readEntry, readEntries, readLine, readLines, readBody, whole, fromHeader, reading, maxAtoms, maxRoles, maxVariables, maxLines, maxLeft}
 use Rattle.table.specs.Step.{isSome, stepOf, verdictOf}
 use Rattle.table.specs.LayoutLaws.{header-read}
 
 ------------------------------------------------------------------ codes
-
-module _ (b : ℕ) where
-  pub kind-top : b ≡ 0 → Top ≡ kindOf b
-  unfolding kindOf
-  kind-top h = simp (eq-eqb b 0 h)
-
-  pub kind-constant : 0x20 ≤ b → b ≤ 0x3F → Constant (b - 0x20) ≡ kindOf b
-  unfolding kindOf
-  kind-constant h l = let n : b ≡ 0 → ⊥ = omega arith in simp (ne-eqb b 0 n, le-leb 0x20 b h, le-leb b 0x3F l)
-
-  pub kind-restriction : 0x40 ≤ b → b ≤ 0x5F → Restriction (b - 0x40) ≡ kindOf b
-  unfolding kindOf
-  kind-restriction h l =
-      let n : b ≡ 0 → ⊥ = omega arith in
-      let m : 0x20 ≤ b = omega arith in
-      let k : 0x3F < b = omega arith in
-      simp (ne-eqb b 0 n, le-leb 0x20 b m, lt-leb b 0x3F k, le-leb 0x40 b h, le-leb b 0x5F l)
-
-  pub kind-variable : 0x60 ≤ b → Variable (b - 0x60) ≡ kindOf b
-  unfolding kindOf
-  kind-variable h =
-      let n : b ≡ 0 → ⊥ = omega arith in
-      let i : 0x20 ≤ b = omega arith in
-      let j : 0x3F < b = omega arith in
-      let k : 0x40 ≤ b = omega arith in
-      let m : 0x5F < b = omega arith in
-      simp (ne-eqb b 0 n, le-leb 0x20 b i, lt-leb b 0x3F j, le-leb 0x40 b k, lt-leb b 0x5F m, le-leb 0x60 b h)
-
-  pub kind-other : (b ≡ 0 → ⊥) → b < 0x20 → Other ≡ kindOf b
-  unfolding kindOf
-  kind-other n h =
-      let k : b < 0x40 = omega arith in
-      let m : b < 0x60 = omega arith in
-      simp (ne-eqb b 0 n, lt-leb 0x20 b h, lt-leb 0x40 b k, lt-leb 0x60 b m)
 
 pub some-within : {A : Type 0} (k n : ℕ) (a : A) → ltb k n ≡ isSome (within k n a)
 unfolding isSome within
@@ -152,27 +117,29 @@ then-last (refused n p) f = refl
 then-last (got a at) f = refl
 
 -- many of a kind, one after the other
-module _ {A : Type 0} (one : ℕ → Read A) (many : ℕ → ℕ → Read (List A))
-    (none-left : (at : ℕ) → many 0 at ≡ got [] at)
-    (one-more : (k at : ℕ) → many (suc k) at ≡ andThen (one at) (λ a next. andThen (many k next) (λ l end. got (a ∷ l) end))) where
-  pub turn-start : (count at : ℕ) → stepOf (many count at) ≡ stepOf (many (count - 0) at)
-  turn-start count at = ap (λ (k : ℕ). stepOf (many k at)) (let e : count ≡ count - 0 = omega arith in e)
+module _ {A : Type 0} (one : ℕ → Read A) where
+  pub turn-start : (count at : ℕ) → stepOf (readMany one count at) ≡ stepOf (readMany one (count - 0) at)
+  turn-start count at = ap (λ (k : ℕ). stepOf (readMany one k at)) (let e : count ≡ count - 0 = omega arith in e)
 
-  pub turn-end : (count k at : ℕ) → count ≤ k → stepOf (many (count - k) at) ≡ Next at
-  unfolding stepOf
-  turn-end count k at h = ap (λ (k : ℕ). stepOf (many k at)) (let e : count - k ≡ 0 = omega arith in e) ∙ ap stepOf (none-left at)
+  pub turn-end : (count k at : ℕ) → count ≤ k → stepOf (readMany one (count - k) at) ≡ Next at
+  unfolding stepOf readMany
+  turn-end count k at h = ap (λ (k : ℕ). stepOf (readMany one k at)) (let e : count - k ≡ 0 = omega arith in e)
 
-  fewer : (count k at : ℕ) → k < count → stepOf (many (count - k) at) ≡ stepOf (andThen (one at) (λ a next. andThen (many (count - (k + 1)) next) (λ l end. got (a ∷ l) end)))
-  fewer count k at h = ap (λ (k : ℕ). stepOf (many k at)) (let e : count - k ≡ suc (count - (k + 1)) = omega arith in e) ∙ ap stepOf (one-more (count - (k + 1)) at)
+  abbrev thenMany : ℕ → A → ℕ → Read (List A)
+  thenMany k a next = andThen (readMany one k next) (λ l end. got (a ∷ l) end)
 
-  pub turn-stop : (count k at n p : ℕ) → k < count → stepOf (one at) ≡ Stop n p → stepOf (many (count - k) at) ≡ Stop n p
-  turn-stop count k at n p h q = fewer count k at h ∙ then-stop (one at) (λ a next. andThen (many (count - (k + 1)) next) (λ l end. got (a ∷ l) end)) n p q
+  fewer : (count k at : ℕ) → k < count → stepOf (readMany one (count - k) at) ≡ stepOf (andThen (one at) (thenMany (count - (k + 1))))
+  unfolding readMany
+  fewer count k at h = ap (λ (k : ℕ). stepOf (readMany one k at)) (let e : count - k ≡ suc (count - (k + 1)) = omega arith in e)
 
-  pub turn-next : (count k at next : ℕ) → k < count → stepOf (one at) ≡ Next next → stepOf (many (count - k) at) ≡ stepOf (many (count - (k + 1)) next)
+  pub turn-stop : (count k at n p : ℕ) → k < count → stepOf (one at) ≡ Stop n p → stepOf (readMany one (count - k) at) ≡ Stop n p
+  turn-stop count k at n p h q = fewer count k at h ∙ then-stop (one at) (thenMany (count - (k + 1))) n p q
+
+  pub turn-next : (count k at next : ℕ) → k < count → stepOf (one at) ≡ Next next → stepOf (readMany one (count - k) at) ≡ stepOf (readMany one (count - (k + 1)) next)
   turn-next count k at next h q =
       fewer count k at h
-      ∙ then-next (one at) (λ a next. andThen (many (count - (k + 1)) next) (λ l end. got (a ∷ l) end)) next (stepOf (many (count - (k + 1)) next)) q
-      (λ a. then-last (many (count - (k + 1)) next) (λ l. a ∷ l))
+      ∙ then-next (one at) (thenMany (count - (k + 1))) next (stepOf (readMany one (count - (k + 1)) next)) q
+      (λ a. then-last (readMany one (count - (k + 1)) next) (λ l. a ∷ l))
 
 ------------------------------------------------------------------ the header
 
@@ -323,68 +290,6 @@ module _ (s : List ℕ) (h : Header) where
         line-entries _ l few
         (then-next (readEntries s h (byteAt s at) (at + 1)) thenRight next (stepOf (readEntry s h next)) (counted count same ∙ q)
         (λ left. then-last (readEntry s h next) (λ right. record { left = left; right = right })))
-
-  ---------------------------------------------------------------- loops
-
-  no-rows : (at : ℕ) → readRows s h 0 at ≡ got [] at
-  unfolding readRows
-  no-rows at = refl
-
-  a-row : (k at : ℕ) → readRows s h (suc k) at ≡ andThen (readRow s h at) (λ a next. andThen (readRows s h k next) (λ l end. got (a ∷ l) end))
-  unfolding readRows
-  a-row k at = refl
-
-  no-entries : (at : ℕ) → readEntries s h 0 at ≡ got [] at
-  unfolding readEntries
-  no-entries at = refl
-
-  an-entry : (k at : ℕ) → readEntries s h (suc k) at ≡ andThen (readEntry s h at) (λ a next. andThen (readEntries s h k next) (λ l end. got (a ∷ l) end))
-  unfolding readEntries
-  an-entry k at = refl
-
-  no-lines : (at : ℕ) → readLines s h 0 at ≡ got [] at
-  unfolding readLines
-  no-lines at = refl
-
-  a-line : (k at : ℕ) → readLines s h (suc k) at ≡ andThen (readLine s h at) (λ a next. andThen (readLines s h k next) (λ l end. got (a ∷ l) end))
-  unfolding readLines
-  a-line k at = refl
-
-  pub rows-start : (count at : ℕ) → stepOf (readRows s h count at) ≡ stepOf (readRows s h (count - 0) at)
-  rows-start = turn-start (readRow s h) (readRows s h) no-rows a-row
-
-  pub rows-end : (count k at : ℕ) → count ≤ k → stepOf (readRows s h (count - k) at) ≡ Next at
-  rows-end = turn-end (readRow s h) (readRows s h) no-rows a-row
-
-  pub rows-stop : (count k at n p : ℕ) → k < count → stepOf (readRow s h at) ≡ Stop n p → stepOf (readRows s h (count - k) at) ≡ Stop n p
-  rows-stop = turn-stop (readRow s h) (readRows s h) no-rows a-row
-
-  pub rows-next : (count k at next : ℕ) → k < count → stepOf (readRow s h at) ≡ Next next → stepOf (readRows s h (count - k) at) ≡ stepOf (readRows s h (count - (k + 1)) next)
-  rows-next = turn-next (readRow s h) (readRows s h) no-rows a-row
-
-  pub entries-start : (count at : ℕ) → stepOf (readEntries s h count at) ≡ stepOf (readEntries s h (count - 0) at)
-  entries-start = turn-start (readEntry s h) (readEntries s h) no-entries an-entry
-
-  pub entries-end : (count k at : ℕ) → count ≤ k → stepOf (readEntries s h (count - k) at) ≡ Next at
-  entries-end = turn-end (readEntry s h) (readEntries s h) no-entries an-entry
-
-  pub entries-stop : (count k at n p : ℕ) → k < count → stepOf (readEntry s h at) ≡ Stop n p → stepOf (readEntries s h (count - k) at) ≡ Stop n p
-  entries-stop = turn-stop (readEntry s h) (readEntries s h) no-entries an-entry
-
-  pub entries-next : (count k at next : ℕ) → k < count → stepOf (readEntry s h at) ≡ Next next → stepOf (readEntries s h (count - k) at) ≡ stepOf (readEntries s h (count - (k + 1)) next)
-  entries-next = turn-next (readEntry s h) (readEntries s h) no-entries an-entry
-
-  pub lines-start : (count at : ℕ) → stepOf (readLines s h count at) ≡ stepOf (readLines s h (count - 0) at)
-  lines-start = turn-start (readLine s h) (readLines s h) no-lines a-line
-
-  pub lines-end : (count k at : ℕ) → count ≤ k → stepOf (readLines s h (count - k) at) ≡ Next at
-  lines-end = turn-end (readLine s h) (readLines s h) no-lines a-line
-
-  pub lines-stop : (count k at n p : ℕ) → k < count → stepOf (readLine s h at) ≡ Stop n p → stepOf (readLines s h (count - k) at) ≡ Stop n p
-  lines-stop = turn-stop (readLine s h) (readLines s h) no-lines a-line
-
-  pub lines-next : (count k at next : ℕ) → k < count → stepOf (readLine s h at) ≡ Next next → stepOf (readLines s h (count - k) at) ≡ stepOf (readLines s h (count - (k + 1)) next)
-  lines-next = turn-next (readLine s h) (readLines s h) no-lines a-line
 
   ---------------------------------------------------------------- the body
 

@@ -1,26 +1,20 @@
 -- The bytes of a readable table lie as its table says.
 --
---   refused-got, got-same        == a refusal is not something read, and two readings of one thing are equal
---   refuse-got, then-got, or-got == what is known where something was read past a refusal, in two steps, from a code
 --   RowRead s h at row           == the two bytes at `at` are the row
 --   EntryRead s h at x           == the byte at `at` is the entry
 --   LineRead s h at l            == the bytes from `at` on are the line
 --   after s at n                 == the place after n lines from `at` on
---   after-first, start-after     == the first of them first, and `lineStart` in these words
+--   start-after                  == `lineStart` in these words
 --   RowsRead, EntriesRead, LinesRead == the same of as many as are counted, and the place after them
 --   row-read, rows-read, entry-read, entries-read, line-read, lines-read == what was read is there
 --   HeaderRead s h, header-read  == the ten bytes are the header, within its bounds
---   tableWith h rows lines       == the table of a header, with these rows and lines
 --   BodyRead s h t, body-read    == the bytes from 10 on are the table's rows and lines, and nothing follows
---   within-some                  == a number that was read is in range
---   filler-declared, entry-declared == what was read is declared
 --   laid, read-layout            == what was read makes a layout
 --   layout                       == a readable table's bytes lie as its table says
 --   readable-header              == a reading's header and table are headerOf and tableOf
 --   refused-readable, readable-is == a verdict is one of the two, and where it is "readable" the reading is
 --   start-first, start-next      == where the first line begins, and the next one
 --   line-inside                  == a line lies inside its table
---   longest                      == "The longest readable table has 698 bytes."
 use mathlib.Core.Path.{_≡_, refl, sym, ap, subst, _∙_}
 use mathlib.Core.Bool.{Bool, true, false, not, cond}
 use mathlib.Core.List.{List, [], _∷_}
@@ -37,45 +31,31 @@ use Rattle.el.specs.Table.{Filler, topF, constantF, variableF, Entry, constant,
 use Rattle.table.specs.declared.Kind.{Kind}
 use Rattle.table.specs.declared.Kind.the-variants.{Top, Constant, Restriction, Variable, Other}
 use Rattle.table.specs.declared.Verdict.the-variants.{Refused, Readable}
-use Rattle.table.specs.Code.{kindOf, within, fillerOfKind, fillerOf, entryOfKind, entryOf}
-use Rattle.table.specs.Reading.{Read, refused, got, refuseIf, andThen, orRefused, byteAt, missing, Header, headerOf, marked, versionOne, readHeader, readRow, readRows, readEntry, readEntries, readLine, readLines, readBody, Reading, refusal, readable, whole, fromHeader, reading, theTable, tableOf, isReadable, maxAtoms, maxRoles, maxVariables, maxLines, maxLeft}
+use Rattle.table.specs.Code.{fillerOf, entryOf}
+use Rattle.table.specs.CodeLaws.{filler-declared, entry-declared}
+use Rattle.table.specs.ManyLaws.{refuse-got, then-got, or-got, got-same, along, many-got, many-each}
+use Rattle.table.specs.Reading.{Read, refused, got, refuseIf, andThen, orRefused, byteAt, missing, Header, headerOf, marked, versionOne, readHeader, readRow, readRows, readEntry, readEntries, readLine, readLines, readBody, tableWith, Reading, refusal, readable, whole, fromHeader, reading, theTable, tableOf, isReadable, maxAtoms, maxRoles, maxVariables, maxLines, maxLeft}
 use Rattle.table.specs.Step.{verdictOf}
 use Rattle.table.specs.Layout.{lineAt, lineStart, Layout}
 
-pub refused-got : {A : Type 0} (n p : ℕ) (a : A) (end : ℕ) → refused n p ≡ got a end → ⊥
-refused-got n p a end q = let z : _≡_ {A = ℕ} 0 1 = cc in omega arith
-
-pub refuse-got : {A : Type 0} (t : Bool) (n p : ℕ) (x : Read A) (a : A) (end : ℕ) → refuseIf t n p x ≡ got a end → (t ≡ false) × (x ≡ got a end)
-refuse-got true n p x a end q = absurd (refused-got n p a end q)
-refuse-got false n p x a end q = (refl, q)
-
-pub then-got : {A B : Type 0} (x : Read A) (f : A → ℕ → Read B) (b : B) (end : ℕ)
-    → andThen x f ≡ got b end
-    → (a : A) × (at : ℕ) × (x ≡ got a at) × (f a at ≡ got b end)
-then-got (refused n p) f b end q = absurd (refused-got n p b end q)
-then-got (got a at) f b end q = (a, at, refl, q)
-
-pub or-got : {A : Type 0} (at : ℕ) (o : Option A) (a : A) (end : ℕ) → orRefused at o ≡ got a end → (o ≡ some a) × (end ≡ at + 1)
-or-got at none a end q = absurd (refused-got 5 at a end q)
-or-got at (some b) a end q = (cc, cc)
-
-pub got-same : {A : Type 0} (a b : A) (m n : ℕ) → got a m ≡ got b n → (a ≡ b) × (m ≡ n)
-got-same a b m n q = (cc, cc)
-
 -- the place after n lines from `at` on
-unfoldable pub after : List ℕ → ℕ → ℕ → ℕ
-after s at zero = at
-after s at (suc n) = after s at n + byteAt s (after s at n) + 2
-
-pub after-first : (s : List ℕ) (at n : ℕ) → after s (at + byteAt s at + 2) n ≡ after s at (suc n)
-unfolding after
-after-first s at zero = refl
-after-first s at (suc n) = ap (λ (p : ℕ). p + byteAt s p + 2) (after-first s at n)
+abbrev pub after : List ℕ → ℕ → ℕ → ℕ
+after s = along (λ p. p + byteAt s p + 2)
 
 pub start-after : (s : List ℕ) (n : ℕ) → lineStart s n ≡ after s (10 + 2 * byteAt s 8) n
-unfolding after lineStart
+unfolding along lineStart
 start-after s zero = refl
 start-after s (suc n) = ap (λ (p : ℕ). p + byteAt s p + 2) (start-after s n)
+
+along-one : (at n : ℕ) → along (λ p. p + 1) at n ≡ at + n
+unfolding along
+along-one at zero = let e : at ≡ at + 0 = omega arith in e
+along-one at (suc n) = let ih : along (λ p. p + 1) at n ≡ at + n = along-one at n in omega arith
+
+along-two : (at n : ℕ) → along (λ p. p + 2) at n ≡ at + 2 * n
+unfolding along
+along-two at zero = let e : at ≡ at + 2 * 0 = omega arith in e
+along-two at (suc n) = let ih : along (λ p. p + 2) at n ≡ at + 2 * n = along-two at n in omega arith
 
 module _ (s : List ℕ) (h : Header) where
   ------------------------------------------------------------------ rows
@@ -109,29 +89,16 @@ module _ (s : List ℕ) (h : Header) where
     pub each : (j : ℕ) → j < k → RowRead (at + 2 * j) (rowAt rows j)
     pub next : end ≡ at + 2 * k
 
-  rows-cons : (k at : ℕ) (row : Row) (rows : List Row) (end mid : ℕ) → mid ≡ at + 2 → RowRead at row → RowsRead k mid rows end → RowsRead (suc k) at (row ∷ rows) end
-  unfolding rowAt
-  rows-cons k at row rows end mid e first rest =
-      record { many = ap suc (rest .many); each = each; next = let p : end ≡ mid + 2 * k = rest .next in omega arith }
-    where
-      each : (j : ℕ) → j < suc k → RowRead (at + 2 * j) (rowAt (row ∷ rows) j)
-      each zero l = subst (λ (p : ℕ). RowRead p row) (let p : at ≡ at + 2 * 0 = omega arith in p) first
-      each (suc j) l = subst (λ (p : ℕ). RowRead p (rowAt rows j)) (let p : mid + 2 * j ≡ at + 2 * suc j = omega arith in p) (rest .each j (omega arith))
-
   pub rows-read : (k at : ℕ) (rows : List Row) (end : ℕ) → readRows s h k at ≡ got rows end → RowsRead k at rows end
-  unfolding readRows
-  rows-read zero at rows end q =
-      let e = got-same [] rows at end q in
-      record { many = sym (ap length (e .0)); each = λ j l. absurd (let p : ⊥ = omega arith in p); next = let p : at ≡ end = e .1 in omega arith }
-  rows-read (suc k) at rows end q =
-      let f = then-got (readRow s h at) (λ row next. andThen (readRows s h k next) (λ rest end. got (row ∷ rest) end)) rows end q in
-      let g = then-got (readRows s h k (f .1)) (λ rest end. got (f .0 ∷ rest) end) rows end (f .3) in
-      let e = got-same (f .0 ∷ g .0) rows (g .1) end (g .3) in
-      let first = row-read at (f .0) (f .1) (f .2) in
-      let rest = rows-read k (f .1) (g .0) (g .1) (g .2) in
-      subst (λ (l : List Row). RowsRead (suc k) at l end) (e .0)
-      (subst (λ (z : ℕ). RowsRead (suc k) at (f .0 ∷ g .0) z) (e .1)
-      (rows-cons k at (f .0) (g .0) (g .1) (f .1) (first .1) (first .0) rest))
+  unfolding rowAt
+  rows-read k at rows end q =
+      let m = many-got (readRow s h) k at rows end q in
+      let each = many-each (readRow s h) (λ p. p + 2) RowRead row-read (record { role = 0; filler = topF }) rows at end (m .1) in
+      record {
+        many = m .0;
+        each = λ j w. subst (λ (p : ℕ). RowRead p (rowAt rows j)) (along-two at j) (each .0 j (let e : length rows ≡ k = m .0 in omega arith));
+        next = each .1 ∙ along-two at (length rows) ∙ ap (λ (n : ℕ). at + 2 * n) (m .0);
+      }
 
   ------------------------------------------------------------------ entries
 
@@ -151,28 +118,15 @@ module _ (s : List ℕ) (h : Header) where
     pub each : (j : ℕ) → j < k → EntryRead (at + j) (getD xs j (constant 0))
     pub next : end ≡ at + k
 
-  entries-cons : (k at : ℕ) (x : Entry) (xs : List Entry) (end mid : ℕ) → mid ≡ at + 1 → EntryRead at x → EntriesRead k mid xs end → EntriesRead (suc k) at (x ∷ xs) end
-  entries-cons k at x xs end mid e first rest =
-      record { many = ap suc (rest .many); each = each; next = let p : end ≡ mid + k = rest .next in omega arith }
-    where
-      each : (j : ℕ) → j < suc k → EntryRead (at + j) (getD (x ∷ xs) j (constant 0))
-      each zero l = subst (λ (p : ℕ). EntryRead p x) (let p : at ≡ at + 0 = omega arith in p) first
-      each (suc j) l = subst (λ (p : ℕ). EntryRead p (getD xs j (constant 0))) (let p : mid + j ≡ at + suc j = omega arith in p) (rest .each j (omega arith))
-
   pub entries-read : (k at : ℕ) (xs : List Entry) (end : ℕ) → readEntries s h k at ≡ got xs end → EntriesRead k at xs end
-  unfolding readEntries
-  entries-read zero at xs end q =
-      let e = got-same [] xs at end q in
-      record { many = sym (ap length (e .0)); each = λ j l. absurd (let p : ⊥ = omega arith in p); next = let p : at ≡ end = e .1 in omega arith }
-  entries-read (suc k) at xs end q =
-      let f = then-got (readEntry s h at) (λ x next. andThen (readEntries s h k next) (λ rest end. got (x ∷ rest) end)) xs end q in
-      let g = then-got (readEntries s h k (f .1)) (λ rest end. got (f .0 ∷ rest) end) xs end (f .3) in
-      let e = got-same (f .0 ∷ g .0) xs (g .1) end (g .3) in
-      let first = entry-read at (f .0) (f .1) (f .2) in
-      let rest = entries-read k (f .1) (g .0) (g .1) (g .2) in
-      subst (λ (l : List Entry). EntriesRead (suc k) at l end) (e .0)
-      (subst (λ (z : ℕ). EntriesRead (suc k) at (f .0 ∷ g .0) z) (e .1)
-      (entries-cons k at (f .0) (g .0) (g .1) (f .1) (first .1) (first .0) rest))
+  entries-read k at xs end q =
+      let m = many-got (readEntry s h) k at xs end q in
+      let each = many-each (readEntry s h) (λ p. p + 1) EntryRead entry-read (constant 0) xs at end (m .1) in
+      record {
+        many = m .0;
+        each = λ j w. subst (λ (p : ℕ). EntryRead p (getD xs j (constant 0))) (along-one at j) (each .0 j (let e : length xs ≡ k = m .0 in omega arith));
+        next = each .1 ∙ along-one at (length xs) ∙ ap (λ (n : ℕ). at + n) (m .0);
+      }
 
   ------------------------------------------------------------------ lines
 
@@ -213,32 +167,16 @@ module _ (s : List ℕ) (h : Header) where
     pub each : (n : ℕ) → n < k → LineRead (after s at n) (lineAt ls n)
     pub next : end ≡ after s at k
 
-  lines-cons : (k at : ℕ) (l : Line) (ls : List Line) (end mid : ℕ) → mid ≡ at + byteAt s at + 2 → LineRead at l → LinesRead k mid ls end → LinesRead (suc k) at (l ∷ ls) end
-  unfolding lineAt after
-  lines-cons k at l ls end mid e first rest =
-      record { many = ap suc (rest .many); each = each; next = rest .next ∙ later k }
-    where
-      later : (n : ℕ) → after s mid n ≡ after s at (suc n)
-      later n = ap (λ (p : ℕ). after s p n) e ∙ after-first s at n
-
-      each : (n : ℕ) → n < suc k → LineRead (after s at n) (lineAt (l ∷ ls) n)
-      each zero w = first
-      each (suc n) w = subst (λ (p : ℕ). LineRead p (lineAt ls n)) (later n) (rest .each n (omega arith))
-
   pub lines-read : (k at : ℕ) (ls : List Line) (end : ℕ) → readLines s h k at ≡ got ls end → LinesRead k at ls end
-  unfolding readLines after
-  lines-read zero at ls end q =
-      let e = got-same [] ls at end q in
-      record { many = sym (ap length (e .0)); each = λ n w. absurd (let p : ⊥ = omega arith in p); next = sym (e .1) }
-  lines-read (suc k) at ls end q =
-      let f = then-got (readLine s h at) (λ l next. andThen (readLines s h k next) (λ rest end. got (l ∷ rest) end)) ls end q in
-      let g = then-got (readLines s h k (f .1)) (λ rest end. got (f .0 ∷ rest) end) ls end (f .3) in
-      let e = got-same (f .0 ∷ g .0) ls (g .1) end (g .3) in
-      let first = line-read at (f .0) (f .1) (f .2) in
-      let rest = lines-read k (f .1) (g .0) (g .1) (g .2) in
-      subst (λ (x : List Line). LinesRead (suc k) at x end) (e .0)
-      (subst (λ (z : ℕ). LinesRead (suc k) at (f .0 ∷ g .0) z) (e .1)
-      (lines-cons k at (f .0) (g .0) (g .1) (f .1) (first .1) (first .0) rest))
+  unfolding lineAt
+  lines-read k at ls end q =
+      let m = many-got (readLine s h) k at ls end q in
+      let each = many-each (readLine s h) (λ p. p + byteAt s p + 2) LineRead line-read (record { left = []; right = constant 0 }) ls at end (m .1) in
+      record {
+        many = m .0;
+        each = λ n w. each .0 n (let e : length ls ≡ k = m .0 in omega arith);
+        next = each .1 ∙ ap (after s at) (m .0);
+      }
 
   ------------------------------------------------------------------ header and body
 
@@ -270,16 +208,13 @@ module _ (s : List ℕ) (h : Header) where
         few-lines = ltb-false maxLines (byteAt s 9) (m .0);
       }
 
-  abbrev pub tableWith : List Row → List Line → Table
-  tableWith rows lines = record { constants = h .c; roles = h .r; variables = h .v; rows = rows; lines = lines }
-
   abbrev theRest : List Row → List Line → ℕ → Read Table
-  theRest rows lines end = refuseIf (ltb end (length s)) 6 end (got (tableWith rows lines) end)
+  theRest rows lines end = refuseIf (ltb end (length s)) 6 end (got (tableWith h rows lines) end)
 
   pub record BodyRead (t : Table) : Type 0 where
     pub rows : List Row
     pub lines : List Line
-    pub same : t ≡ tableWith rows lines
+    pub same : t ≡ tableWith h rows lines
     pub rows-in : RowsRead (h .e) 10 rows (10 + 2 * h .e)
     pub lines-in : LinesRead (h .m) (10 + 2 * h .e) lines (after s (10 + 2 * h .e) (h .m))
     pub at-most : length s ≤ after s (10 + 2 * h .e) (h .m)
@@ -290,7 +225,7 @@ module _ (s : List ℕ) (h : Header) where
       let f = then-got (readRows s h (h .e) 10) (λ rows next. andThen (readLines s h (h .m) next) (λ lines z. theRest rows lines z)) t end q in
       let g = then-got (readLines s h (h .m) (f .1)) (λ lines z. theRest (f .0) lines z) t end (f .3) in
       let a = refuse-got (ltb (g .1) (length s)) 6 (g .1) _ t end (g .3) in
-      let e = got-same (tableWith (f .0) (g .0)) t (g .1) end (a .1) in
+      let e = got-same (tableWith h (f .0) (g .0)) t (g .1) end (a .1) in
       let rows = rows-read (h .e) 10 (f .0) (f .1) (f .2) in
       let lines = lines-read (h .m) (f .1) (g .0) (g .1) (g .2) in
       let w : f .1 ≡ 10 + 2 * h .e = rows .next in
@@ -303,39 +238,6 @@ module _ (s : List ℕ) (h : Header) where
         lines-in = subst (λ (p : ℕ). LinesRead (h .m) (10 + 2 * h .e) (g .0) p) z (subst (λ (p : ℕ). LinesRead (h .m) p (g .0) (g .1)) w lines);
         at-most = subst (λ (p : ℕ). length s ≤ p) z (ltb-false (g .1) (length s) (a .0));
       }
-
------------------------------------------------------------------- what was read is declared
-
-pub within-some : {A : Type 0} (k n : ℕ) (a x : A) → within k n a ≡ some x → (k < n) × (a ≡ x)
-unfolding within
-within-some k n a x q = go (ltb k n) refl q
-  where
-    go : (b : Bool) → ltb k n ≡ b → cond b (some a) none ≡ some x → (k < n) × (a ≡ x)
-    go true e q = (ltb-true k n e, cc)
-    go false e q = let z : _≡_ {A = ℕ} 0 1 = cc in absurd (let y : ⊥ = omega arith in y)
-
-module _ (t : Table) where
-  pub filler-declared : (b : ℕ) (f : Filler) → fillerOf (t .constants) (t .variables) b ≡ some f → T (fillerDeclared t f)
-  unfolding fillerOf fillerOfKind
-  filler-declared b f q = go (kindOf b) q
-    where
-      go : (k : Kind) → fillerOfKind (t .constants) (t .variables) k ≡ some f → T (fillerDeclared t f)
-      go Top q = let e : topF ≡ f = cc in subst (λ (x : Filler). T (fillerDeclared t x)) e tt
-      go (Constant k) q = let w = within-some k (t .constants) (constantF k) f q in subst (λ (x : Filler). T (fillerDeclared t x)) (w .1) (lt→ltb k (t .constants) (w .0))
-      go (Restriction k) q = absurd (Option·none-ne-some f q)
-      go (Variable k) q = let w = within-some k (t .variables) (variableF k) f q in subst (λ (x : Filler). T (fillerDeclared t x)) (w .1) (lt→ltb k (t .variables) (w .0))
-      go Other q = absurd (Option·none-ne-some f q)
-
-  pub entry-declared : (b : ℕ) (x : Entry) → entryOf (t .constants) (length (t .rows)) (t .variables) b ≡ some x → T (entryDeclared t x)
-  unfolding entryOf entryOfKind
-  entry-declared b x q = go (kindOf b) q
-    where
-      go : (k : Kind) → entryOfKind (t .constants) (length (t .rows)) (t .variables) k ≡ some x → T (entryDeclared t x)
-      go Top q = absurd (Option·none-ne-some x q)
-      go (Constant k) q = let w = within-some k (t .constants) (constant k) x q in subst (λ (y : Entry). T (entryDeclared t y)) (w .1) (lt→ltb k (t .constants) (w .0))
-      go (Restriction k) q = let w = within-some k (length (t .rows)) (restriction k) x q in subst (λ (y : Entry). T (entryDeclared t y)) (w .1) (lt→ltb k (length (t .rows)) (w .0))
-      go (Variable k) q = let w = within-some k (t .variables) (variable k) x q in subst (λ (y : Entry). T (entryDeclared t y)) (w .1) (lt→ltb k (t .variables) (w .0))
-      go Other q = absurd (Option·none-ne-some x q)
 
 ------------------------------------------------------------------ the layout
 
@@ -360,7 +262,7 @@ module _ (s : List ℕ) (rows : List Row) (lines : List Line)
   starts-in (suc n) w = line-there n (omega arith) .inside
 
   abbrev built : Table
-  built = tableWith s (headerOf s) rows lines
+  built = tableWith (headerOf s) rows lines
 
   row-declared : (k : ℕ) → k < length rows → T (rowDeclared built (rowAt rows k))
   row-declared k w =
@@ -468,20 +370,3 @@ start-next s n at p e q = ap (λ (k : ℕ). at + k + 2) q ∙ ap (λ (k : ℕ). 
 
 pub line-inside : (s : List ℕ) → T (isReadable (reading s)) → (n at : ℕ) → n < byteAt s 9 → at ≡ lineStart s n → at + byteAt s at + 2 ≤ length s
 line-inside s ok n at few begins = subst (λ (k : ℕ). k + byteAt s k + 2 ≤ length s) (sym begins) (layout s ok .line-in n few)
-
-starts-within : (s : List ℕ) (t : Table) → Layout s t → (n : ℕ) → n ≤ byteAt s 9 → lineStart s n ≤ 10 + 2 * byteAt s 8 + 10 * n
-unfolding lineStart
-starts-within s t l zero w = omega arith
-starts-within s t l (suc n) w =
-    let before : lineStart s n ≤ 10 + 2 * byteAt s 8 + 10 * n = starts-within s t l n (omega arith) in
-    let few : byteAt s (lineStart s n) ≤ 8 = l .line-few n (omega arith) in
-    omega arith
-
-pub longest : (s : List ℕ) → T (isReadable (reading s)) → length s ≤ 698
-longest s ok =
-    let l = layout s ok in
-    let end : lineStart s (byteAt s 9) ≡ length s = l .line-end in
-    let most = starts-within s (tableOf s) l (byteAt s 9) (omega arith) in
-    let lines : byteAt s 9 ≤ 64 = l .few-lines in
-    let atoms : byteAt s 5 + byteAt s 8 ≤ 24 = l .few-atoms in
-    omega arith

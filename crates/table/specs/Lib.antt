@@ -1,5 +1,12 @@
 pub mod Code
+pub mod CodeLaws
 pub mod Reading
+pub mod ManyLaws
 pub mod Step
 pub mod Layout
 pub mod LayoutLaws
+pub mod Bytes
+pub mod BytesLaws
+pub mod Refusal
+pub mod RefusalLaws
+pub mod LengthLaws

@@ -7,10 +7,10 @@
 --   missing s i          == there is no byte i
 --   Header               == the five counts
 --   readHeader s         == bytes 0 to 9
---   readRows s h k at    == k restriction rows from the byte `at` on
---   readEntries s h k at == k entries from the byte `at` on
---   readLine s h at      == the line that begins at the byte `at`
---   readLines s h k at   == k lines from the byte `at` on
+--   readMany one k at    == k of a kind from the byte `at` on, each read by `one`
+--   readRow, readEntry, readLine s h at == the row, the entry, the line that begins at the byte `at`
+--   readRows, readEntries, readLines s h k at == k of them
+--   tableWith h rows lines == the table of a header, with these rows and lines
 --   Reading, reading s   == the whole
 use mathlib.Core.Bool.{Bool, true, false, _&&_, not}
 use mathlib.Core.List.{List, [], _∷_}
@@ -54,6 +54,11 @@ andThen (got a at) f = f a at
 abbrev pub orRefused : {A : Type 0} → ℕ → Option A → Read A
 orRefused at none = refused 5 at
 orRefused at (some a) = got a (at + 1)
+
+-- many of a kind, one after the other
+unfoldable pub readMany : {A : Type 0} → (ℕ → Read A) → ℕ → ℕ → Read (List A)
+readMany one zero at = got [] at
+readMany one (suc k) at = andThen (one at) (λ a next. andThen (readMany one k next) (λ l end. got (a ∷ l) end))
 
 abbrev pub byteAt : List ℕ → ℕ → ℕ
 byteAt s i = getD s i 0
@@ -101,16 +106,14 @@ module _ (s : List ℕ) (h : Header) where
       (andThen (orRefused (at + 1) (fillerOf (h .c) (h .v) (byteAt s (at + 1)))) (λ f next.
       got (record { role = byteAt s at; filler = f }) next))))
 
-  unfoldable pub readRows : ℕ → ℕ → Read (List Row)
-  readRows zero at = got [] at
-  readRows (suc k) at = andThen (readRow at) (λ row next. andThen (readRows k next) (λ rows end. got (row ∷ rows) end))
+  abbrev pub readRows : ℕ → ℕ → Read (List Row)
+  readRows = readMany readRow
 
   unfoldable pub readEntry : ℕ → Read Entry
   readEntry at = refuseIf (missing s at) 1 (length s) (orRefused at (entryOf (h .c) (h .e) (h .v) (byteAt s at)))
 
-  unfoldable pub readEntries : ℕ → ℕ → Read (List Entry)
-  readEntries zero at = got [] at
-  readEntries (suc k) at = andThen (readEntry at) (λ x next. andThen (readEntries k next) (λ xs end. got (x ∷ xs) end))
+  abbrev pub readEntries : ℕ → ℕ → Read (List Entry)
+  readEntries = readMany readEntry
 
   -- "a left count p, p atom codes, and one right atom code"; "an over-large p gives 4 before its entries are read"
   unfoldable pub readLine : ℕ → Read Line
@@ -121,13 +124,16 @@ module _ (s : List ℕ) (h : Header) where
       andThen (readEntry next) (λ right end.
       got (record { left = left; right = right }) end))))
 
-  unfoldable pub readLines : ℕ → ℕ → Read (List Line)
-  readLines zero at = got [] at
-  readLines (suc k) at = andThen (readLine at) (λ l next. andThen (readLines k next) (λ ls end. got (l ∷ ls) end))
+  abbrev pub readLines : ℕ → ℕ → Read (List Line)
+  readLines = readMany readLine
 
 pub data Reading : Type 0 where
   refusal : ℕ → ℕ → Reading
   readable : Header → Table → Reading
+
+-- the table of a header, with these rows and lines
+abbrev pub tableWith : Header → List Row → List Line → Table
+tableWith h rows lines = record { constants = h .c; roles = h .r; variables = h .v; rows = rows; lines = lines }
 
 -- "rows and lines in byte order"; "Then 6": "bytes after the last line", place "first of them"
 unfoldable pub readBody : List ℕ → Header → Read Table
@@ -135,7 +141,7 @@ readBody s h =
     andThen (readRows s h (h .e) 10) (λ rows next.
     andThen (readLines s h (h .m) next) (λ lines end.
     refuseIf (ltb end (length s)) 6 end
-    (got (record { constants = h .c; roles = h .r; variables = h .v; rows = rows; lines = lines }) end)))
+    (got (tableWith h rows lines) end)))
 
 abbrev pub whole : Header → Read Table → Reading
 whole h (refused n p) = refusal n p

@@ -1,6 +1,6 @@
 -- `table::kind_of` meets its contract: a law for each range.
 use native.Mathlib.Omega.{arith}
-use Rattle.table.proofs.Laws.{kind-top, kind-constant, kind-restriction, kind-variable, kind-other}
+use Rattle.table.specs.CodeLaws.{kind-top, kind-constant, kind-restriction, kind-variable, kind-other}
 use Rattle.table.proofs.kind_of.Statement.{statement}
 use Rattle.table.proofs.kind_of.Tie as tie
 

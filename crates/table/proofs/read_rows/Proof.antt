@@ -5,7 +5,7 @@ use Prim.Native.Nat.{_-_, _≤_}
 use native.Mathlib.Omega.{arith}
 use Rattle.table.specs.Reading.{headerOf, readRows}
 use Rattle.table.specs.Step.{stepOf}
-use Rattle.table.proofs.Laws.{rows-start, rows-end, rows-stop, rows-next}
+use Rattle.table.proofs.Laws.{turn-start, turn-end, turn-stop, turn-next}
 use Rattle.table.proofs.read_rows.Statement.{statement}
 use Rattle.table.proofs.read_rows.Tie as tie
 
@@ -16,7 +16,7 @@ abbrev μ-loop : tie.MeasureT-loop
 μ-loop table count from at₀ k₀ at k = count - k
 
 loop-holds : tie.Need-loop-holds Inv-loop μ-loop
-loop-holds c = (omega arith, rows-start _ _ _ _)
+loop-holds c = (omega arith, turn-start _ _ _)
 
 read-row-requires : tie.Need-read-row-requires Inv-loop μ-loop
 read-row-requires c κs = omega arith
@@ -28,7 +28,7 @@ enum-known-number : tie.Need-enum-known-number Inv-loop μ-loop
 enum-known-number c = c .match .keys2
 
 returns : tie.Need-returns Inv-loop μ-loop
-returns c = sym (c .before .before .before .before .before .loop .inv .1 ∙ rows-stop _ _ _ _ _ _ _ (omega arith) (sym (c .before .before .before .read-row .ensures) ∙ c .before .number .given .1))
+returns c = sym (c .before .before .before .before .before .loop .inv .1 ∙ turn-stop _ _ _ _ _ _ (omega arith) (sym (c .before .before .before .read-row .ensures) ∙ c .before .number .given .1))
 
 add-k : tie.Need-add-k Inv-loop μ-loop
 add-k c = omega arith
@@ -37,10 +37,10 @@ loop-less : tie.Need-loop-less Inv-loop μ-loop
 loop-less c = omega arith
 
 loop-again : tie.Need-loop-again Inv-loop μ-loop
-loop-again c = (omega arith, c .before .before .before .before .before .loop .inv .1 ∙ rows-next _ _ _ _ _ _ (omega arith) (sym (c .before .before .before .read-row .ensures) ∙ c .before .next .given .1))
+loop-again c = (omega arith, c .before .before .before .before .before .loop .inv .1 ∙ turn-next _ _ _ _ _ (omega arith) (sym (c .before .before .before .read-row .ensures) ∙ c .before .next .given .1))
 
 returns-2 : tie.Need-returns-2 Inv-loop μ-loop
-returns-2 c = sym (c .before .loop .inv .1 ∙ rows-end _ _ _ _ _ (omega arith))
+returns-2 c = sym (c .before .loop .inv .1 ∙ turn-end _ _ _ _ (omega arith))
 
 pub read-rows-spec : {M : Type 1} → statement M
 read-rows-spec =

@@ -1,0 +1,75 @@
+-- What is wrong with the bytes under each number of the reader's refusals, in the order of judging.
+--
+--   Slot              == what stands next: a role, a filler, a left count, an entry, or nothing
+--   Awaited x         == something stands next
+--   Begins h good x   == the bytes `good` begin a table with the counts h and are right so far, and x stands next
+--   Refuses h x b     == the byte b is neither declared nor allowed where x stands next
+--   Over h at         == of the counts h the first that is over its bound is the one of the byte `at`
+--   RefusedAt s n p   == the bytes s are refused with the number n and the place p
+use mathlib.Core.Path.{_≡_}
+use mathlib.Core.List.{List, [], _∷_, _++_, flatMap}
+use mathlib.Core.Option.{none}
+use Prim.Native.Nat.{ℕ, _+_, _≤_, _<_}
+use lib.Dec.{T}
+use lib.ListN.{length}
+use Rattle.el.specs.Test.{everyOf}
+use Rattle.el.specs.Table.{Entry, Row, Line, entryDeclared}
+use Rattle.table.specs.Code.{fillerOf, entryOf}
+use Rattle.table.specs.Reading.{Header, headerOf, marked, versionOne, tableWith, maxAtoms, maxRoles, maxVariables, maxLines, maxLeft}
+use Rattle.table.specs.Bytes.{writtenEntry, bytesWith, Right}
+
+-- "restriction rows of two bytes: a role, less than r, and a filler code"; "lines, each a left count p, p atom codes, and one
+-- right atom code. Nothing follows."
+pub data Slot : Type 0 where
+  aRole aFiller aCount anEntry nothing : Slot
+
+-- something stands next
+abbrev pub Awaited : Slot → Type 0
+Awaited aRole = Unit {0}
+Awaited aFiller = Unit {0}
+Awaited aCount = Unit {0}
+Awaited anEntry = Unit {0}
+Awaited nothing = ⊥
+
+-- "rows and lines in byte order": the rows and lines so far, and the part of a row or of a line that stands behind them
+abbrev pub Begins : Header → List ℕ → Slot → Type 0
+Begins h good aRole = (rows : List Row) × Right h rows [] × (length rows < h .e) × (good ≡ bytesWith h rows [])
+Begins h good aFiller = (rows : List Row) × (role : ℕ) × Right h rows [] × (length rows < h .e) × (role < h .r) × (good ≡ bytesWith h rows [] ++ (role ∷ []))
+Begins h good aCount = (rows : List Row) × (lines : List Line) × Right h rows lines × (length rows ≡ h .e) × (length lines < h .m) × (good ≡ bytesWith h rows lines)
+Begins h good anEntry =
+    (rows : List Row) × (lines : List Line) × (p : ℕ) × (xs : List Entry) × Right h rows lines × (length rows ≡ h .e) × (length lines < h .m)
+    × (p ≤ maxLeft) × (length xs ≤ p) × T (everyOf (entryDeclared (tableWith h rows lines)) xs) × (good ≡ bytesWith h rows lines ++ (p ∷ flatMap writtenEntry xs))
+Begins h good nothing = (rows : List Row) × (lines : List Line) × Right h rows lines × (length rows ≡ h .e) × (length lines ≡ h .m) × (good ≡ bytesWith h rows lines)
+
+-- "code or role not declared or not allowed there"
+abbrev pub Refuses : Header → Slot → ℕ → Type 0
+Refuses h aRole b = h .r ≤ b
+Refuses h aFiller b = fillerOf (h .c) (h .v) b ≡ none
+Refuses h aCount b = ⊥
+Refuses h anEntry b = entryOf (h .c) (h .e) (h .v) b ≡ none
+Refuses h nothing b = ⊥
+
+-- "counts in byte order (c + e is judged at byte 8)"
+pub data Over (h : Header) : ℕ → Type 0 where
+  over-roles : maxRoles < h .r → Over h 6
+  over-variables : h .r ≤ maxRoles → maxVariables < h .v → Over h 7
+  over-atoms : h .r ≤ maxRoles → h .v ≤ maxVariables → maxAtoms < h .c + h .e → Over h 8
+  over-lines : h .r ≤ maxRoles → h .v ≤ maxVariables → h .c + h .e ≤ maxAtoms → maxLines < h .m → Over h 9
+
+pub data RefusedAt (s : List ℕ) : ℕ → ℕ → Type 0 where
+  -- 1 "input ends early", "input length": "fewer than 10 bytes gives 1 before anything else"
+  header-cut : length s < 10 → RefusedAt s 1 (length s)
+  -- 2 "wrong mark", 0
+  wrong-mark : 10 ≤ length s → (T (marked s) → ⊥) → RefusedAt s 2 0
+  -- 3 "version is not 1", 3
+  wrong-version : 10 ≤ length s → T (marked s) → (T (versionOne s) → ⊥) → RefusedAt s 3 3
+  -- 4 "a count is over its bound", "its byte"
+  over-bound : {at : ℕ} → 10 ≤ length s → T (marked s) → T (versionOne s) → Over (headerOf s) at → RefusedAt s 4 at
+  -- 4 "an over-large p gives 4 before its entries are read"
+  over-left : (h : Header) (good : List ℕ) (p : ℕ) (tail : List ℕ) → Begins h good aCount → s ≡ good ++ (p ∷ tail) → maxLeft < p → RefusedAt s 4 (length good)
+  -- 1 "a missing byte gives 1"
+  ends-early : (h : Header) (x : Slot) → Awaited x → Begins h s x → RefusedAt s 1 (length s)
+  -- 5 "code or role not declared or not allowed there", "its byte"
+  not-allowed : (h : Header) (x : Slot) (good : List ℕ) (b : ℕ) (tail : List ℕ) → Begins h good x → s ≡ good ++ (b ∷ tail) → Refuses h x b → RefusedAt s 5 (length good)
+  -- 6 "bytes after the last line", "first of them"
+  bytes-after : (h : Header) (good : List ℕ) (b : ℕ) (tail : List ℕ) → Begins h good nothing → s ≡ good ++ (b ∷ tail) → RefusedAt s 6 (length good)

@@ -22,7 +22,7 @@ use Rattle.text.specs.Batch.{readText, lineText, solveText}
 use Rattle.text.specs.FitsLaws.{read-fits, line-fits, solve-fits}
 use Rattle.makrothel.specs.declared.ReadAnswer.{ReadAnswer}
 use Rattle.makrothel.specs.declared.SolveAnswer.{SolveAnswer}
-use Rattle.makrothel.specs.Answer.{readAnswer, linePart}
+use Rattle.makrothel.specs.Answer.{readAnswer, hasLine, linePart}
 use Rattle.makrothel.specs.Solve.{answered, answer}
 use Rattle.batch.specs.declared.Question.{Question}
 use Rattle.batch.specs.Question.{twoAt, questionOf, isQuestion, readReplyOf, readReply, lineReply, solveReplyOf, solveReply, reply}
@@ -63,7 +63,7 @@ at-start : {b t a u : List ℕ} {r : ℕ} → 4096 ≤ length b → length t ≤
 at-start {b} {t} room fits e h = let w = appended-whole h (omega arith) in ((w .0, w .1), w .2 ∙ e)
 
 part-length : (s : List ℕ) (n : ℕ) → length (linePart s n) ≤ length s
-unfolding linePart
+unfolding linePart hasLine
 part-length s n = go (isReadable (reading s) && ltb n (byteAt s 9))
   where
     go : (x : Bool) → length (cond x (take (byteAt s (lineStart s n) + 2) (drop (lineStart s n) s)) []) ≤ length s

@@ -4,11 +4,12 @@
 --   turn-length    == so many subtrees, each with so many nodes at most
 --   power-next, sum-first == 2^(n(k+1)) is 2^(nk) times 2^n, and a sum of such powers by its first
 --   subtree-length == the nodes of a subtree
+--   count-some     == the root is always examined: N is not 0
 --   count-most     == "N is at most the sum of 2^((c+e)k) for k from 0 to v."
 use mathlib.Core.Path.{_≡_, refl, sym, ap, subst, _∙_}
 use mathlib.Core.Bool.{Bool, true, false}
 use mathlib.Core.List.{List, [], _∷_, _++_}
-use Prim.Native.Nat.{ℕ, zero, suc, _+_, _*_, _^_, _≤_}
+use Prim.Native.Nat.{ℕ, zero, suc, _+_, _*_, _^_, _≤_, _<_}
 use native.Mathlib.Omega.{arith}
 use native.Mathlib.Nat.{mul-suc, mul-zero, add-mul, pow-zero}
 use lib.Pow.{pow-add}
@@ -72,6 +73,17 @@ module _ (under : ℕ → ℕ → Bool) (t : Table) where
           let w : sums (suc r) ≡ 1 + sums r * 2 ^ atoms t = whole in
           let l : length (inTurn (2 ^ atoms t) 0 (λ x. subtree under t r (s ++ (x ∷ [])))) ≤ sums r * 2 ^ atoms t = turn-length (2 ^ atoms t) 0 (sums r) (λ x. subtree under t r (s ++ (x ∷ []))) h in
           omega arith
+
+  pub count-some : 0 < count under t
+  unfolding count examined nodes
+  count-some = go (t .variables)
+    where
+      first : (l : List Node) (s : Node) → 0 < length (upToFirst (ends under t) (s ∷ l))
+      first l s = unfold upToFirst in omega arith
+
+      go : (r : ℕ) → 0 < length (upToFirst (ends under t) (subtree under t r []))
+      go zero = unfold subtree in first [] []
+      go (suc r) = unfold subtree in first (elim (dead under t []) [ true ↦ [] | false ↦ inTurn (2 ^ atoms t) 0 (λ x. subtree under t r (x ∷ [])) ]) []
 
   -- N IS AT MOST THE SUM OF ALL LEVELS
   pub count-most : count under t ≤ mostNodes t

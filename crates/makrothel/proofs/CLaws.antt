@@ -15,8 +15,8 @@ use borrow.Author.Tests.{lt-ltb, ltb-true}
 use Rattle.table.specs.Reading.{byteAt, reading, isReadable}
 use Rattle.table.specs.Layout.{lineStart}
 use Rattle.table.specs.LayoutLaws.{line-inside}
-use Rattle.makrothel.specs.Answer.{linePart}
-use Rattle.makrothel.specs.C.{hasLine, lineFound, lineSpan, spanned}
+use Rattle.makrothel.specs.Answer.{hasLine, linePart}
+use Rattle.makrothel.specs.C.{lineFound, lineSpan, spanned}
 use Rattle.makrothel.specs.Unique.{line-length}
 
 abbrev There : List ℕ → ℕ → Type 0

@@ -3,10 +3,12 @@
 --   header-there  == where the verdict is "readable" the table has a header
 --   read-refused  == the reader's answer to a refused table
 --   read-readable == the reader's answer to a readable one
+--   IsLine k part at == the part of line k, and where it begins
 --   line-refused  == an unreadable table has no line
 --   line-over     == there is no line m or more
 --   line-room     == a line lies inside its table
---   line-there    == the part that is line n
+--   line-there    == the part that is line n, and its start
+--   line-part     == such a part as the promise says it
 --   finish-found, finish-nothing, finish-spent == the answer to the end of a walk
 --   solve-refused, solve-short, solve-walked == the solver's answer, by what it meets first
 use mathlib.Core.Path.{_≡_, refl, sym, ap, subst, _∙_}
@@ -17,6 +19,7 @@ use native.Mathlib.Omega.{arith}
 use lib.Dec.{T, ltb}
 use lib.ListN.{length, take, drop}
 use borrow.Author.Tests.{lt-ltb, le-ltb}
+use denote.Ref.{RefT, now}
 use Rattle.table.specs.declared.Verdict.the-variants.{Refused, Readable}
 use Rattle.el.specs.Description.{sameRole}
 use Rattle.el.specs.Walk.{outcome}
@@ -31,7 +34,7 @@ use Rattle.walk.specs.declared.End.the-variants.{Found, Nothing, Spent}
 use Rattle.walk.specs.declared.Walked.{Walked}
 use Rattle.walk.specs.Step as step
 use Rattle.output.specs.Written.{written}
-use Rattle.makrothel.specs.Answer.{readAnswer, linePart}
+use Rattle.makrothel.specs.Answer.{readAnswer, hasLine, linePart, lineBegin}
 use Rattle.makrothel.specs.Solve.{Answered, refusedAs, outcomeAs, readingAs, answer}
 use Rattle.makrothel.specs.Demand2.{answer-outcome}
 use Rattle.makrothel.specs.Demand1.{is-table, answer-short}
@@ -59,34 +62,49 @@ module _ (s : List ℕ) where
       go (refusal n p) e q = absurd (refused-readable n p q)
       go (readable h t) e q = ap (λ (x : Header). readAnswer (readable x t)) (sym (readable-header s h t e .0))
 
-  pub line-refused : (k n p : ℕ) → verdictOf (reading s) ≡ Refused n p → [] ≡ linePart s k
-  unfolding verdictOf linePart
-  line-refused k n p q = go (reading s) q
+  -- the part of line k, and where it begins
+  abbrev pub IsLine : ℕ → List ℕ → ℕ → Type 0
+  IsLine k part at = (part ≡ linePart s k) × (at ≡ lineBegin s k)
+
+  by-test : (k : ℕ) (b : Bool) → hasLine s k ≡ b → IsLine k (cond b (take (byteAt s (lineStart s k) + 2) (drop (lineStart s k) s)) []) (cond b (lineStart s k) 0)
+  unfolding linePart lineBegin
+  by-test k b e = rw (sym e) (refl, refl)
+
+  pub line-refused : (k n p : ℕ) → verdictOf (reading s) ≡ Refused n p → IsLine k [] 0
+  unfolding verdictOf
+  line-refused k n p q = by-test k false (unfold hasLine in go (reading s) q)
     where
-      go : (x : Reading) → verdictOf x ≡ Refused n p → [] ≡ cond (isReadable x && ltb k (byteAt s 9)) (take (byteAt s (lineStart s k) + 2) (drop (lineStart s k) s)) []
+      go : (x : Reading) → verdictOf x ≡ Refused n p → isReadable x && ltb k (byteAt s 9) ≡ false
       go (refusal m i) q = refl
       go (readable h t) q = absurd (refused-readable n p (sym q))
 
   module _ (ok : verdictOf (reading s) ≡ Readable) (k : ℕ) where
-    tested : (b : Bool) → ltb k (byteAt s 9) ≡ b → cond b (take (byteAt s (lineStart s k) + 2) (drop (lineStart s k) s)) [] ≡ linePart s k
-    unfolding linePart
-    tested b e = rw (sym e) (go (isReadable (reading s)) (readable-is s ok))
+    tested : (b : Bool) → ltb k (byteAt s 9) ≡ b → hasLine s k ≡ b
+    unfolding hasLine
+    tested b e = go (isReadable (reading s)) (readable-is s ok)
       where
-        go : (x : Bool) → T x → cond (ltb k (byteAt s 9)) (take (byteAt s (lineStart s k) + 2) (drop (lineStart s k) s)) [] ≡ cond (x && ltb k (byteAt s 9)) (take (byteAt s (lineStart s k) + 2) (drop (lineStart s k) s)) []
-        go true t = refl
+        go : (x : Bool) → T x → x && ltb k (byteAt s 9) ≡ b
+        go true t = e
         go false t = absurd t
 
-    pub line-over : (m : ℕ) → m ≡ byteAt s 9 → m ≤ k → [] ≡ linePart s k
-    line-over m e h = tested false (le-ltb k (byteAt s 9) (omega arith))
+    pub line-over : (m : ℕ) → m ≡ byteAt s 9 → m ≤ k → IsLine k [] 0
+    line-over m e h = by-test k false (tested false (le-ltb k (byteAt s 9) (omega arith)))
 
     pub line-room : (at : ℕ) → k < byteAt s 9 → at ≡ lineStart s k → at + byteAt s at + 2 ≤ length s
     line-room at h a = line-inside s (readable-is s ok) k at h a
 
-    pub line-there : (at p : ℕ) → k < byteAt s 9 → at ≡ lineStart s k → p ≡ byteAt s at → take (at + p + 2 - at) (drop at s) ≡ linePart s k
+    pub line-there : (at p : ℕ) → k < byteAt s 9 → at ≡ lineStart s k → p ≡ byteAt s at → IsLine k (take (at + p + 2 - at) (drop at s)) at
     line-there at p h a e =
-        ap (λ (i : ℕ). take i (drop at s)) (let z : at + p + 2 - at ≡ byteAt s at + 2 = omega arith in z)
-        ∙ ap (λ (i : ℕ). take (byteAt s i + 2) (drop i s)) a
-        ∙ tested true (lt-ltb k (byteAt s 9) h)
+        let there = by-test k true (tested true (lt-ltb k (byteAt s 9) h)) in (
+          ap (λ (i : ℕ). take i (drop at s)) (let z : at + p + 2 - at ≡ byteAt s at + 2 = omega arith in z)
+              ∙ ap (λ (i : ℕ). take (byteAt s i + 2) (drop i s)) a
+              ∙ there .0,
+          a ∙ there .1,
+        )
+
+-- a part of the table that begins at the line's start, as the promise says it
+pub line-part : (t : RefT (List ℕ)) (k : ℕ) {part : List ℕ} {at : ℕ} → IsLine (now t) k part at → (part ≡ linePart (now t) k) × ((t .ptr .0 ≡ t .ptr .0) × (at + t .ptr .1 ≡ t .ptr .1 + lineBegin (now t) k))
+line-part t k {part} {at} l = (l .0, (refl, (let e : at ≡ lineBegin (now t) k = l .1 in omega arith)))
 
 ----------------------------------------------------------------------------------------------------
 -- The end of a walk

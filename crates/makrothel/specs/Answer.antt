@@ -1,12 +1,17 @@
 -- What the public calls answer.
 --
 --   readAnswer r == the reader's number, place and five counts for a reading
+--   hasLine s n  == are the bytes s readable, and is there a line n?
 --   linePart s n == line n of the bytes s, from its left count to its right code, or nothing
-use mathlib.Core.Bool.{_&&_, cond}
+--   lineBegin s n == the byte where that part begins; an empty one begins at 0
+--   BeginsIn r t k == the part r of the caller's table t begins at the byte k of t
+use mathlib.Core.Path.{_≡_}
+use mathlib.Core.Bool.{Bool, _&&_, cond}
 use mathlib.Core.List.{List, []}
 use Prim.Native.Nat.{ℕ, _+_}
 use lib.Dec.{ltb}
 use lib.ListN.{take, drop}
+use denote.Ref.{RefT}
 use Rattle.table.specs.Reading.{byteAt, Reading, refusal, readable, reading, isReadable}
 use Rattle.table.specs.Layout.{lineStart}
 use Rattle.makrothel.specs.declared.ReadAnswer.{ReadAnswer}
@@ -16,7 +21,17 @@ unfoldable pub readAnswer : Reading → ReadAnswer
 readAnswer (refusal n p) = record { number = n; place = p; constants = 0; roles = 0; variables = 0; restrictions = 0; lines = 0 }
 readAnswer (readable h t) = record { number = 0; place = 0; constants = h .c; roles = h .r; variables = h .v; restrictions = h .e; lines = h .m }
 
+unfoldable pub hasLine : List ℕ → ℕ → Bool
+hasLine s n = isReadable (reading s) && ltb n (byteAt s 9)
+
 -- "returns that line as a part of the caller's own table, from its left count to its right code, p + 2 bytes.
 -- An unreadable table or a line number of m or more gives an empty part."
 unfoldable pub linePart : List ℕ → ℕ → List ℕ
-linePart s n = cond (isReadable (reading s) && ltb n (byteAt s 9)) (take (byteAt s (lineStart s n) + 2) (drop (lineStart s n) s)) []
+linePart s n = cond (hasLine s n) (take (byteAt s (lineStart s n) + 2) (drop (lineStart s n) s)) []
+
+unfoldable pub lineBegin : List ℕ → ℕ → ℕ
+lineBegin s n = cond (hasLine s n) (lineStart s n) 0
+
+-- a reference points to a block of memory and a place in it
+abbrev pub BeginsIn : RefT (List ℕ) → RefT (List ℕ) → ℕ → Type 0
+BeginsIn r t k = (r .ptr .0 ≡ t .ptr .0) × (r .ptr .1 ≡ t .ptr .1 + k)

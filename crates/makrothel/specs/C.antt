@@ -1,26 +1,22 @@
 -- What the calls for C hand back through the arrays that the caller lends.
 --
 --   placeAndCounts a == the reader's place and its counts c, r, v, e, m
---   hasLine s n      == are the bytes s readable, and is there a line n?
 --   lineFound s n    == 1 where there is a line n, and 0 where there is none
 --   lineSpan s n     == the byte where line n starts and its length, or zeros where there is none
 --   spanned x s      == the part of the bytes s that a start and a length name
 --   countAndPlace a  == the solver's count and place
-use mathlib.Core.Bool.{Bool, _&&_, cond}
+use mathlib.Core.Bool.{cond}
 use mathlib.Core.List.{List, [], _∷_}
 use Prim.Native.Nat.{ℕ, _+_}
-use lib.Dec.{ltb}
 use lib.ListN.{take, drop, getD}
-use Rattle.table.specs.Reading.{byteAt, reading, isReadable}
+use Rattle.table.specs.Reading.{byteAt}
 use Rattle.table.specs.Layout.{lineStart}
 use Rattle.makrothel.specs.declared.ReadAnswer.{ReadAnswer}
+use Rattle.makrothel.specs.Answer.{hasLine}
 use Rattle.makrothel.specs.Solve.{Answered}
 
 unfoldable pub placeAndCounts : ReadAnswer → List ℕ
 placeAndCounts a = a .place ∷ a .constants ∷ a .roles ∷ a .variables ∷ a .restrictions ∷ a .lines ∷ []
-
-unfoldable pub hasLine : List ℕ → ℕ → Bool
-hasLine s n = isReadable (reading s) && ltb n (byteAt s 9)
 
 unfoldable pub lineFound : List ℕ → ℕ → ℕ
 lineFound s n = cond (hasLine s n) 1 0

@@ -7,6 +7,7 @@
 --   demand-2-solved  == within the budget, the first assignment that solves is answered: number 0, count N, and its sets written
 --   demand-2-none    == within the budget, where none solves: number 8, count N, and the output as it was
 --   demand-2-budget  == beyond the budget b: number 9, count b, and the output as it was
+--   demand-2-no-budget == so with budget 0 the answer is 9, count 0
 --   demand-2-decides == within the budget some assignment is the first that solves, or none solves
 --   demand-2-solved-exactly, demand-2-none-exactly, demand-2-budget-exactly == so each number is given exactly then
 use mathlib.Core.Path.{_≡_, refl, sym, ap, subst, _∙_}
@@ -23,6 +24,7 @@ use Rattle.el.specs.Table.{Table, declared}
 use Rattle.el.specs.Assignment.{Assignment, IsAssignment, Solves, solves, Before}
 use Rattle.el.specs.Walk.{Outcome, solved, nothing, budget, outcome}
 use Rattle.el.specs.CountingLaws.{counting-order}
+use Rattle.el.specs.CountLaws.{count-some}
 use Rattle.el.specs.LocalityLaws.{solves-means}
 use Rattle.el.specs.OutcomeLaws.{OutcomeSays, outcome-says, outcome-beyond}
 use Rattle.table.specs.Reading.{Reading, theTable, tableOf, isReadable}
@@ -66,6 +68,12 @@ module _ (s : List ℕ) (t : Table) (is : IsTable s t) (b : ℕ) (out : List ℕ
   -- BUDGET
   pub demand-2-budget : b < N t → answer s b out ≡ record { number = 9; count = b; place = 0; output = out }
   demand-2-budget over = answer-outcome ∙ ap (λ (o : Outcome). outcomeAs o out) (outcome-beyond sameRole t (known s t is) b over)
+
+  -- "any readable table with budget 0 and enough room gives 9, count 0"
+  pub demand-2-no-budget : b ≡ 0 → answer s b out ≡ record { number = 9; count = 0; place = 0; output = out }
+  demand-2-no-budget z =
+      let some : 0 < N t = count-some sameRole t in
+      demand-2-budget (omega arith) ∙ ap (λ (k : ℕ). record { number = 9; count = k; place = 0; output = out }) z
 
   -- the two answers within the budget
   abbrev pub Found : Type 0

@@ -29,7 +29,7 @@ use Rattle.makrothel.specs.Numbers.{FirstSolving, NoneSolves, N, NumberA
 use Rattle.makrothel.specs.Solve.{Answered, answer}
 use Rattle.makrothel.specs.Grown.{rowBytes, lineBytes, Grown, SameLines}
 use Rattle.makrothel.specs.Demand1.{is-table, demand-1-row, demand-1-only, demand-1-number, demand-1-refused, demand-1-short, demand-1-kept, demand-1-written, demand-1-read-refused, demand-1-read}
-use Rattle.makrothel.specs.Demand2.{demand-2-solved, demand-2-none, demand-2-budget, demand-2-decides, demand-2-solved-exactly, demand-2-none-exactly, demand-2-budget-exactly}
+use Rattle.makrothel.specs.Demand2.{demand-2-solved, demand-2-none, demand-2-budget, demand-2-no-budget, demand-2-decides, demand-2-solved-exactly, demand-2-none-exactly, demand-2-budget-exactly}
 use Rattle.makrothel.specs.Demand3.{SameAnswer, demand-3-none, demand-3-solved, demand-3-grown, demand-3-widened, demand-3-budget}
 use Rattle.makrothel.specs.Cases.{p5, p8, p12, Answers, cases-hold}
 
@@ -244,6 +244,9 @@ p9-over = demand-2-budget-exactly (p8 .bytes) (tableOf (p8 .bytes)) p8-table 13 
 
 pub p9-fewer : answer (p8 .bytes) 7 eight ≡ record { number = 9; count = 7; place = 0; output = eight }
 p9-fewer = demand-2-budget (p8 .bytes) (tableOf (p8 .bytes)) p8-table 7 eight room-p8 (let l : 13 < N (tableOf (p8 .bytes)) = p9-over in omega arith)
+
+pub p12-no-budget : answer (p12 .bytes) 0 eight ≡ record { number = 9; count = 0; place = 0; output = eight }
+p12-no-budget = demand-2-no-budget (p12 .bytes) (tableOf (p12 .bytes)) p12-table 0 eight room-p12 refl
 
 ----------------------------------------------------------------------------------------------------
 -- Demand 3

@@ -1,7 +1,7 @@
 -- What the promises of the public calls pin: two results that meet a promise on the same input are equal.
 --
 --   read-unique == of the reader: number, place and the five counts
---   line-unique == of the line call: the contents of the part
+--   line-unique == of the line call: the contents of the part, and where it begins
 --   solve-unique == of the solver: number, count, place and the output afterwards
 --   line-length == a line that is there has p + 2 bytes
 use mathlib.Core.Path.{_≡_, sym, ap, _∙_}
@@ -12,20 +12,22 @@ use native.Mathlib.Omega.{arith}
 use lib.Dec.{T, ltb}
 use lib.ListN.{length, take, drop, length-drop}
 use lib.Seq.{length-take-le}
+use denote.Ref.{RefT, now}
 use borrow.Author.Tests.{lt-ltb}
 use Rattle.table.specs.Reading.{byteAt, reading, isReadable}
 use Rattle.table.specs.Layout.{lineStart}
 use Rattle.table.specs.LayoutLaws.{layout}
 use Rattle.makrothel.specs.declared.ReadAnswer.{ReadAnswer}
 use Rattle.makrothel.specs.declared.SolveAnswer.{SolveAnswer}
-use Rattle.makrothel.specs.Answer.{readAnswer, linePart}
+use Rattle.makrothel.specs.Answer.{readAnswer, hasLine, linePart, lineBegin, BeginsIn}
 use Rattle.makrothel.specs.Solve.{Answered, answered, answer}
 
 pub read-unique : (s : List ℕ) (a b : ReadAnswer) → a ≡ readAnswer (reading s) → b ≡ readAnswer (reading s) → a ≡ b
 read-unique s a b p q = p ∙ sym q
 
-pub line-unique : (s : List ℕ) (n : ℕ) (a b : List ℕ) → a ≡ linePart s n → b ≡ linePart s n → a ≡ b
-line-unique s n a b p q = p ∙ sym q
+pub line-unique : (t a b : RefT (List ℕ)) (n : ℕ) → now a ≡ linePart (now t) n → BeginsIn a t (lineBegin (now t) n) → now b ≡ linePart (now t) n → BeginsIn b t (lineBegin (now t) n)
+    → (now a ≡ now b) × (a .ptr .0 ≡ b .ptr .0) × (a .ptr .1 ≡ b .ptr .1)
+line-unique t a b n p q e f = (p ∙ sym e, q .0 ∙ sym (f .0), q .1 ∙ sym (f .1))
 
 pub solve-unique : (s : List ℕ) (b : ℕ) (out : List ℕ) (q r : SolveAnswer) (after later : List ℕ)
     → answered q after ≡ answer s b out → answered r later ≡ answer s b out → (q ≡ r) × (after ≡ later)
@@ -35,7 +37,7 @@ solve-unique s b out q r after later p e =
     ((λ i. record { number = same i .number; count = same i .count; place = same i .place }), ap (λ (x : Answered). x .output) same)
 
 pub line-length : (s : List ℕ) (n : ℕ) → T (isReadable (reading s)) → n < byteAt s 9 → length (linePart s n) ≡ byteAt s (lineStart s n) + 2
-unfolding linePart
+unfolding linePart hasLine
 line-length s n ok h = go (isReadable (reading s)) ok (ltb n (byteAt s 9)) (lt-ltb n (byteAt s 9) h)
   where
     there : lineStart s n + byteAt s (lineStart s n) + 2 ≤ length s

@@ -6,7 +6,7 @@ ghost use Prim.Native.Nat.{_*_, _≤_};
 ghost use lib.ListN.{length};
 ghost use Rattle.table.specs.Reading.{reading};
 ghost use Rattle.walk.specs.Step.{outcomeOf};
-ghost use Rattle.makrothel.specs.Answer.{readAnswer, linePart};
+ghost use Rattle.makrothel.specs.Answer.{readAnswer, linePart, lineBegin, BeginsIn};
 ghost use Rattle.makrothel.specs.Solve.{outcomeAs, answered, answer};
 use table::Verdict;
 use walk::End;
@@ -57,7 +57,8 @@ pub fn read(table: &[u8]) -> ReadAnswer
 
 // Line n as a part of the table, from its left count to its right code; an empty part where there is none.
 pub fn line<'a>(table: &'a [u8], n: u32) -> &'a [u8]
-    ensures { λ r. ⌜ now r ≡ linePart (now (table .entry)) n ⌝ }
+    ensures part { λ r. ⌜ now r ≡ linePart (now (table .entry)) n ⌝ }
+    ensures place { λ r. ⌜ BeginsIn r (table .entry) (lineBegin (now (table .entry)) n) ⌝ }
 {
     match table::check(table) {
         Verdict::Refused(_, _) => {

@@ -29,7 +29,8 @@ use Rattle.table.specs.declared.Verdict.the-variants.{Refused}
 use Rattle.table.specs.Code.{kindOf, fillerOfKind, fillerOf}
 use Rattle.table.specs.Reading.{byteAt, Reading, refusal, readable, reading, theTable, tableOf, isReadable}
 use Rattle.table.specs.Step.{verdictOf}
-use Rattle.table.specs.LayoutLaws.{within-some, layout, refused-readable}
+use Rattle.table.specs.CodeLaws.{within-some}
+use Rattle.table.specs.LayoutLaws.{layout, refused-readable}
 use Rattle.text.specs.Append.{Appended}
 use Rattle.text.specs.AppendLaws.{appended-none, appended-then, appended-as}
 use Rattle.text.specs.Text.{newline, decimal, joined, numbersText}

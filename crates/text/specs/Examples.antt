@@ -1,36 +1,25 @@
--- The texts at concrete answers: the specification's worked example, and others.
+-- The texts at concrete answers.
 use mathlib.Core.Path.{_≡_, refl}
 use mathlib.Core.List.{List, [], _∷_}
 use Prim.Native.Nat.{ℕ}
 use Rattle.el.specs.Test.{bit}
 use Rattle.el.specs.Table.{rowAt, atoms}
 use Rattle.table.specs.Code.{kindOf, within, fillerOfKind, fillerOf, entryOfKind, entryOf}
-use Rattle.table.specs.Reading.{marked, versionOne, readHeader, readRow, readRows, readEntry, readEntries, readLine, readLines, readBody, reading, tableOf}
+use Rattle.table.specs.Reading.{marked, versionOne, readHeader, readMany, readRow, readEntry, readLine, readBody, reading, tableOf}
 use Rattle.text.specs.Text.{decimalTo, decimal, behind, joined, numbersText, bytesText, hexText}
 use Rattle.text.specs.Listing.{numberAt, fillerText, rowText, atomText, atomsIn, conjunctionText, setText, variableLine, variableLines, solvedText, firstLine, listingText}
 use Rattle.text.specs.Batch.{readText, lineText, solveText}
 
--- "Input 56 4F 43 01 00 01 01 02 01 02 00 61 01 60 40 01 61 20"
+-- the specification's worked example
 unfoldable pub worked : List ℕ
 worked = 0x56 ∷ 0x4F ∷ 0x43 ∷ 0x01 ∷ 0x00 ∷ 0x01 ∷ 0x01 ∷ 0x02 ∷ 0x01 ∷ 0x02 ∷ 0x00 ∷ 0x61 ∷ 0x01 ∷ 0x60 ∷ 0x40 ∷ 0x01 ∷ 0x61 ∷ 0x20 ∷ []
-
--- its answer is 0, 14, 0 with the sets 2 and 1, and prints
---   0 14 0
---   v0: r0.v1
---   v1: c0
-pub worked-example : listingText worked 0 14 0 (2 ∷ 0 ∷ 0 ∷ 0 ∷ 1 ∷ 0 ∷ 0 ∷ 0 ∷ [])
-    ≡ 0x30 ∷ 0x20 ∷ 0x31 ∷ 0x34 ∷ 0x20 ∷ 0x30 ∷ 0x0A
-    ∷ 0x76 ∷ 0x30 ∷ 0x3A ∷ 0x20 ∷ 0x72 ∷ 0x30 ∷ 0x2E ∷ 0x76 ∷ 0x31 ∷ 0x0A
-    ∷ 0x76 ∷ 0x31 ∷ 0x3A ∷ 0x20 ∷ 0x63 ∷ 0x30 ∷ 0x0A ∷ []
-unfolding listingText firstLine solvedText variableLines variableLine setText conjunctionText atomsIn atomText rowText fillerText numberAt numbersText joined behind decimal decimalTo tableOf reading readBody readLines readLine readEntries readEntry readRows readRow readHeader versionOne marked entryOf entryOfKind fillerOf fillerOfKind within kindOf rowAt atoms bit worked
-worked-example = refl
 
 -- both atoms and none: `v0: c0 & r0.v1`, `v1: top`
 pub several-and-none : listingText worked 0 14 0 (3 ∷ 0 ∷ 0 ∷ 0 ∷ 0 ∷ 0 ∷ 0 ∷ 0 ∷ [])
     ≡ 0x30 ∷ 0x20 ∷ 0x31 ∷ 0x34 ∷ 0x20 ∷ 0x30 ∷ 0x0A
     ∷ 0x76 ∷ 0x30 ∷ 0x3A ∷ 0x20 ∷ 0x63 ∷ 0x30 ∷ 0x20 ∷ 0x26 ∷ 0x20 ∷ 0x72 ∷ 0x30 ∷ 0x2E ∷ 0x76 ∷ 0x31 ∷ 0x0A
     ∷ 0x76 ∷ 0x31 ∷ 0x3A ∷ 0x20 ∷ 0x74 ∷ 0x6F ∷ 0x70 ∷ 0x0A ∷ []
-unfolding listingText firstLine solvedText variableLines variableLine setText conjunctionText atomsIn atomText rowText fillerText numberAt numbersText joined behind decimal decimalTo tableOf reading readBody readLines readLine readEntries readEntry readRows readRow readHeader versionOne marked entryOf entryOfKind fillerOf fillerOfKind within kindOf rowAt atoms bit worked
+unfolding listingText firstLine solvedText variableLines variableLine setText conjunctionText atomsIn atomText rowText fillerText numberAt numbersText joined behind decimal decimalTo tableOf reading readBody readLine readEntry readRow readMany readHeader versionOne marked entryOf entryOfKind fillerOf fillerOfKind within kindOf rowAt atoms bit worked
 several-and-none = refl
 
 -- an empty input: `1 0 0`

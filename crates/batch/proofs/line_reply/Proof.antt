@@ -14,7 +14,7 @@ same-length : tie.Need-same-length
 same-length c = search needs
 
 returns : tie.Need-returns
-returns c = line-is (c .before .before .before .before .before .before .before .pre .1) _ _ _ (c .before .before .before .before .line .ensures) (c .before .before .before .before .before .before .before .pre .0) (c .before .before .hex-line .ensures)
+returns c = line-is (c .before .before .before .before .before .before .before .pre .1) _ _ _ (c .before .before .before .before .line .ensures .0) (c .before .before .before .before .before .before .before .pre .0) (c .before .before .hex-line .ensures)
 
 pub line-reply-spec : {M : Type 1} → statement M
 line-reply-spec = tie.close (tie.spec line-requires hex-line-requires same-length returns)

@@ -3,7 +3,7 @@ use mathlib.Core.Path.{sym, _∙_}
 use native.Mathlib.Omega.{arith}
 use borrow.Author.Needs.{needs}
 use Rattle.table.specs.LayoutLaws.{readable-is}
-use Rattle.makrothel.proofs.Laws.{header-there, line-refused, line-over, line-room, line-there}
+use Rattle.makrothel.proofs.Laws.{header-there, line-refused, line-over, line-room, line-there, line-part}
 use Rattle.makrothel.proofs.line.Statement.{statement}
 use Rattle.makrothel.proofs.line.Tie as tie
 
@@ -23,7 +23,7 @@ part-result-end : tie.Need-part-result-end
 part-result-end c = search needs
 
 returns : tie.Need-returns
-returns c = line-refused _ _ _ _ (sym (c .before .before .before .check .ensures) ∙ c .before .enum-told .given .1)
+returns c = line-part (c .before .before .before .before .before .args .table) (c .before .before .before .before .before .args .n) (line-refused _ _ _ _ (sym (c .before .before .before .check .ensures) ∙ c .before .enum-told .given .1))
 
 enum-told-2 : tie.Need-enum-told-2
 enum-told-2 c = search needs
@@ -44,7 +44,7 @@ part-result-end-2 : tie.Need-part-result-end-2
 part-result-end-2 c = search needs
 
 returns-2 : tie.Need-returns-2
-returns-2 c = line-over _ (sym (c .before .before .before .before .before .before .check .ensures) ∙ c .before .before .before .before .enum-told2 .given .1) _ _ (c .before .before .count .ensures) (omega arith)
+returns-2 c = line-part (c .before .before .before .before .before .before .before .before .args .table) (c .before .before .before .before .before .before .before .before .args .n) (line-over _ (sym (c .before .before .before .before .before .before .check .ensures) ∙ c .before .before .before .before .enum-told2 .given .1) _ _ (c .before .before .count .ensures) (omega arith))
 
 line-start-requires : tie.Need-line-start-requires
 line-start-requires c κs = (readable-is _ (sym (c .before .before .before .before .before .check .ensures) ∙ c .before .before .before .enum-told2 .given .1), omega arith)
@@ -71,7 +71,7 @@ part-result-end-3 : tie.Need-part-result-end-3
 part-result-end-3 c = omega (arith, line-room _ (sym (c .before .before .before .before .before .before .before .before .check .ensures) ∙ c .before .before .before .before .before .before .enum-told2 .given .1) _ _ (omega arith) (c .before .before .line-start .ensures))
 
 returns-3 : tie.Need-returns-3
-returns-3 c = line-there _ (sym (c .before .before .before .before .before .before .before .before .before .check .ensures) ∙ c .before .before .before .before .before .before .before .enum-told2 .given .1) _ _ _ (omega arith) (c .before .before .before .line-start .ensures) (c .before .wide .ensures)
+returns-3 c = line-part (c .before .before .before .before .before .before .before .before .before .before .before .args .table) (c .before .before .before .before .before .before .before .before .before .before .before .args .n) (line-there _ (sym (c .before .before .before .before .before .before .before .before .before .check .ensures) ∙ c .before .before .before .before .before .before .before .enum-told2 .given .1) _ _ _ (omega arith) (c .before .before .before .line-start .ensures) (c .before .wide .ensures))
 
 pub line-spec : {M : Type 1} → statement M
 line-spec =

@@ -9,22 +9,22 @@ line-requires : tie.Need-line-requires
 line-requires c κs = search needs
 
 returns : tie.Need-returns
-returns c = no-line _ _ _ (c .before .before .line .ensures) (omega arith)
+returns c = no-line _ _ _ (c .before .before .line .ensures .0) (omega arith)
 
 line-start-requires : tie.Need-line-start-requires
-line-start-requires c κs = let h = a-line _ _ _ (c .before .line .ensures) (omega arith) in (h .0, omega arith)
+line-start-requires c κs = let h = a-line _ _ _ (c .before .line .ensures .0) (omega arith) in (h .0, omega arith)
 
 shared-slice-read-wide : tie.Need-shared-slice-read-wide
-shared-slice-read-wide c = omega (arith, line-within _ _ (a-line _ _ _ (c .before .before .before .line .ensures) (omega arith)) _ (c .before .line-start .ensures))
+shared-slice-read-wide c = omega (arith, line-within _ _ (a-line _ _ _ (c .before .before .before .line .ensures .0) (omega arith)) _ (c .before .line-start .ensures))
 
 wide-requires : tie.Need-wide-requires
 wide-requires c κs = search needs
 
 add-length : tie.Need-add-length
-add-length c = omega (arith, line-within _ _ (a-line _ _ _ (c .before .before .before .before .line .ensures) (omega arith)) _ (c .before .before .line-start .ensures))
+add-length c = omega (arith, line-within _ _ (a-line _ _ _ (c .before .before .before .before .line .ensures .0) (omega arith)) _ (c .before .before .line-start .ensures))
 
 returns-2 : tie.Need-returns-2
-returns-2 c = line-spanned _ _ (a-line _ _ _ (c .before .before .before .before .before .line .ensures) (omega arith)) _ (c .before .before .before .line-start .ensures) _ (c .before .wide .ensures)
+returns-2 c = line-spanned _ _ (a-line _ _ _ (c .before .before .before .before .before .line .ensures .0) (omega arith)) _ (c .before .before .before .line-start .ensures) _ (c .before .wide .ensures)
 
 pub makrothel-line-spec : {M : Type 1} → statement M
 makrothel-line-spec =

@@ -393,15 +393,14 @@ static void ask_cut(const u8 *bytes, u32 length)
     ask_solve(bytes, length);
 }
 
-/* Each kind of refusal at each part of a table at which it can stand. */
-static void group_places(void)
+/* Each kind of refusal at each part at which it can stand. The table has a row,
+   and its last line a left entry. */
+static void ask_places(const struct draft *draft)
 {
     u8 bytes[DRAFT_BYTES + 1];
-    struct draft draft;
-    make_full_table(&chance, walk, &draft);
-    u32 length = write_draft(&draft, bytes);
-    u32 row = 10 + 2 * below_bound(&chance, draft.e);
-    u32 line = length - draft.line[draft.m - 1].p - 2;
+    u32 length = write_draft(draft, bytes);
+    u32 row = 10 + 2 * below_bound(&chance, draft->e);
+    u32 line = length - draft->line[draft->m - 1].p - 2;
     u32 cuts[] = { below_bound(&chance, 10), row, row + 1, line, line + 1, length - 1 };
     u32 codes[] = { row, row + 1, line + 1, length - 1 };
     for (u32 i = 0; i < sizeof cuts / sizeof cuts[0]; i++) {
@@ -416,9 +415,27 @@ static void group_places(void)
     ask_changed(bytes, length, 7, between(&chance, 13, 255));
     ask_changed(bytes, length, 8, between(&chance, 25, 255));
     ask_changed(bytes, length, 9, between(&chance, 65, 255));
-    ask_changed(bytes, length, line, between(&chance, 9, 255));
+    ask_changed(bytes, length, line, 9);
+    ask_changed(bytes, length, line, between(&chance, 10, 255));
     bytes[length] = (u8)draw(&chance);
     ask_cut(bytes, length + 1);
+}
+
+static void group_places(void)
+{
+    struct draft draft;
+    make_full_table(&chance, walk, &draft);
+    ask_places(&draft);
+}
+
+/* The same of a table with the most rows and lines, and the longest lines. */
+static void group_far_places(void)
+{
+    struct draft draft;
+    draft_start(&draft, 0, 16, 12);
+    add_random_rows(&chance, &draft, 24);
+    add_easy_lines(&chance, &draft, 64, 8, 8);
+    ask_places(&draft);
 }
 
 /* Bytes after the last line: one, some, or as many as a question can have. */
@@ -566,7 +583,7 @@ static const struct group groups[] = {
     { 6400, group_table },    { 700, group_garbage }, { 550, group_after },   { 450, group_budgets },
     { 200, group_damage },    { 200, group_both },    { 150, group_outputs }, { 100, group_truncation },
     { 50, group_mark },       { 50, group_bounds },   { 30, group_values },   { 20, group_places },
-    { 2, group_long_walk },
+    { 5, group_far_places },  { 2, group_long_walk },
 };
 
 static void group_by_chance(void)
@@ -588,6 +605,7 @@ static void group_by_chance(void)
 static void ask_all(u64 count)
 {
     group_places();
+    group_far_places();
     ask_budgets(SOLVED);
     ask_budgets(NONE);
     group_short_outputs();

@@ -278,17 +278,19 @@ static void group_outputs(void)
     ask_solve_with(bytes, length, random_budget(bytes, length), need + below_bound(&chance, MOST_OUTPUT));
 }
 
-/* For each number of variables, an output that is just long enough, and one that
-   is a byte too short. */
-static void group_short_outputs(void)
+/* For each number of variables, an output that is just long enough, one that is a
+   byte too short, and some that are far too long. */
+static void group_output_bounds(void)
 {
     u8 bytes[DRAFT_BYTES];
     struct draft draft;
     for (u32 v = 1; v <= 12; v++) {
         draft_start(&draft, below_bound(&chance, 2), 0, v);
         u32 length = write_draft(&draft, bytes);
-        ask_solve_with(bytes, length, v + 1, 4 * v);
-        ask_solve_with(bytes, length, v + 1, 4 * v - 1);
+        u32 rooms[] = { 4 * v, 4 * v - 1, MOST_OUTPUT - 1 + v % 3, 65535 };
+        for (u32 i = 0; i < (v <= 3 ? 4 : 2); i++) {
+            ask_solve_with(bytes, length, v + 1, rooms[i]);
+        }
     }
 }
 
@@ -608,7 +610,7 @@ static void ask_all(u64 count)
     group_far_places();
     ask_budgets(SOLVED);
     ask_budgets(NONE);
-    group_short_outputs();
+    group_output_bounds();
     group_outputs();
     group_lines();
     group_bounds();

@@ -582,8 +582,8 @@ struct group {
 };
 
 static const struct group groups[] = {
-    { 6400, group_table },    { 700, group_garbage }, { 550, group_after },   { 450, group_budgets },
-    { 200, group_damage },    { 200, group_both },    { 150, group_outputs }, { 100, group_truncation },
+    { 5600, group_table },    { 700, group_garbage }, { 550, group_after },   { 800, group_budgets },
+    { 200, group_damage },    { 200, group_both },    { 200, group_outputs }, { 100, group_truncation },
     { 50, group_mark },       { 50, group_bounds },   { 30, group_values },   { 20, group_places },
     { 5, group_far_places },  { 2, group_long_walk },
 };

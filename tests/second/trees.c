@@ -17,6 +17,13 @@ enum {
     FEW_ASSIGNMENTS = 12 /* 2 to this many are tried one by one, too */
 };
 
+/* Ends the run, with a reply for each question before the one at hand. */
+static _Noreturn void give_up(const char *message)
+{
+    flush();
+    fail(message);
+}
+
 /* "Bounds: c + e at most 24, r at most 16, v at most 12, m at most 64, p at most 8." */
 enum { MOST_ATOMS = 24, MOST_ROLES = 16, MOST_VARIABLES = 12, MOST_LINES = 64, MOST_LEFT = 8 };
 
@@ -379,7 +386,7 @@ static u32 used;
 static description before(description others, enum range range, u32 name, description filler)
 {
     if (used == MOST_CONJUNCTS) {
-        fail("trees: a description is too large");
+        give_up("trees: a description is too large");
     }
     pool[used] = (struct conjunct){ range, name, filler, others };
     return &pool[used++];
@@ -475,7 +482,7 @@ static u32 examine(struct walk *walk)
 {
     struct node *node = &walk->node;
     if (++walk->examined > MOST_NODES) {
-        fail("trees: a walk is too long");
+        give_up("trees: a walk is too long");
     }
     if (walk->examined > walk->budget) {
         return BUDGET;
@@ -535,13 +542,13 @@ static void hold_to_first(const struct walk *walk, u32 number)
     do {
         if (solves(&node)) {
             if (number != SOLVED || memcmp(node.in, walk->node.in, sizeof node.in) != 0) {
-                fail("trees: the walk does not end at the first solving assignment");
+                give_up("trees: the walk does not end at the first solving assignment");
             }
             return;
         }
     } while (next_assignment(&node));
     if (number != NONE) {
-        fail("trees: the walk ends at an assignment that does not solve");
+        give_up("trees: the walk ends at an assignment that does not solve");
     }
 }
 

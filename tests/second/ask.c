@@ -172,23 +172,34 @@ static void ask_read(const u8 *bytes, u32 length)
     ask(&question);
 }
 
-static void ask_line(const u8 *bytes, u32 length)
+static void ask_line_number(const u8 *bytes, u32 length, u32 number)
 {
     struct question question;
-    u32 m = second_read(bytes, length).m;
     load(&question, KIND_LINE, bytes, length);
-    question.number = random_line_number(m > 0 ? m : below_bound(&chance, 4));
+    question.number = number;
+    ask(&question);
+}
+
+static void ask_line(const u8 *bytes, u32 length)
+{
+    u32 m = second_read(bytes, length).m;
+    ask_line_number(bytes, length, random_line_number(m > 0 ? m : below_bound(&chance, 4)));
+}
+
+static void ask_solve_with(const u8 *bytes, u32 length, u32 budget, u32 room)
+{
+    struct question question;
+    load(&question, KIND_SOLVE, bytes, length);
+    question.number = budget;
+    question.room = room;
     ask(&question);
 }
 
 static void ask_solve(const u8 *bytes, u32 length)
 {
-    struct question question;
     struct reading reading = second_read(bytes, length);
-    load(&question, KIND_SOLVE, bytes, length);
-    question.number = random_budget(bytes, length);
-    question.room = random_room(reading.number == 0 ? reading.v : below_bound(&chance, 4));
-    ask(&question);
+    u32 budget = random_budget(bytes, length);
+    ask_solve_with(bytes, length, budget, random_room(reading.number == 0 ? reading.v : below_bound(&chance, 4)));
 }
 
 /* A question of any kind about the table. */
@@ -231,6 +242,74 @@ static void group_table(void)
     }
 }
 
+/* Each budget about a table's N: 0, 1, N - 1, N, N + 1, one by chance, and the
+   largest. `wanted` is the table's answer: SOLVED or NONE. */
+static void ask_budgets(u32 wanted)
+{
+    u8 bytes[DRAFT_BYTES], output[4 * 12];
+    u32 length;
+    struct answer answer;
+    do {
+        length = make_bytes(bytes);
+        answer = second_solve(bytes, length, walk, output, sizeof output);
+    } while (answer.number != wanted);
+    u32 n = answer.count;
+    u32 budgets[] = { 0, 1, n - 1, n, n + 1, below_bound(&chance, 2 * n), largest };
+    u32 room = 4 * second_read(bytes, length).v + below_bound(&chance, 4);
+    for (u32 i = 0; i < sizeof budgets / sizeof budgets[0]; i++) {
+        ask_solve_with(bytes, length, budgets[i], room);
+    }
+}
+
+static void group_budgets(void)
+{
+    ask_budgets(percent(&chance, 60) ? SOLVED : NONE);
+}
+
+/* Each output length up to what a table needs, and some beyond it. */
+static void group_outputs(void)
+{
+    u8 bytes[DRAFT_BYTES];
+    u32 length = make_bytes(bytes);
+    u32 need = 4 * second_read(bytes, length).v;
+    for (u32 room = 0; room <= need + 4; room++) {
+        ask_solve_with(bytes, length, random_budget(bytes, length), room);
+    }
+    ask_solve_with(bytes, length, random_budget(bytes, length), need + below_bound(&chance, MOST_OUTPUT));
+}
+
+/* For each number of variables, an output that is just long enough, one that is a
+   byte too short, and some that are far too long. */
+static void group_output_bounds(void)
+{
+    u8 bytes[DRAFT_BYTES];
+    struct draft draft;
+    for (u32 v = 1; v <= 12; v++) {
+        draft_start(&draft, below_bound(&chance, 2), 0, v);
+        u32 length = write_draft(&draft, bytes);
+        u32 rooms[] = { 4 * v, 4 * v - 1, MOST_OUTPUT - 1 + v % 3, 65535 };
+        for (u32 i = 0; i < (v <= 3 ? 4 : 2); i++) {
+            ask_solve_with(bytes, length, v + 1, rooms[i]);
+        }
+    }
+}
+
+/* Each line of a table, the one after the last, and the first of a table that is
+   refused. */
+static void group_lines(void)
+{
+    u8 bytes[DRAFT_BYTES + 1];
+    struct draft draft;
+    make_full_table(&chance, walk, &draft);
+    u32 length = write_draft(&draft, bytes);
+    for (u32 i = 0; i <= draft.m; i++) {
+        ask_line_number(bytes, length, i);
+    }
+    bytes[length] = (u8)draw(&chance);
+    ask_line_number(bytes, length + 1, 0);
+    ask_line_number(bytes, length - 1, 0);
+}
+
 /* A set number beyond two bytes: the one long walk. There is none where walks
    are to be short. */
 static void group_long_walk(void)
@@ -238,7 +317,6 @@ static void group_long_walk(void)
     u8 bytes[DRAFT_BYTES];
     u8 left = CODE_VARIABLE;
     struct draft draft;
-    struct question question;
     if (walk < USUAL_WALK) {
         return;
     }
@@ -246,10 +324,7 @@ static void group_long_walk(void)
     add_line(&draft, 1, &left, CODE_CONSTANT + 16);
     add_line(&draft, 1, &left, CODE_CONSTANT + below_bound(&chance, 12));
     u32 length = write_draft(&draft, bytes);
-    load(&question, KIND_SOLVE, bytes, length);
-    question.number = 80000;
-    question.room = 4;
-    ask(&question);
+    ask_solve_with(bytes, length, 80000, 4);
 }
 
 /* ---- Groups of questions: damage */
@@ -302,6 +377,67 @@ static void group_both(void)
         ask_any(bytes, between(&chance, place, length));
         bytes[place] = kept;
     }
+}
+
+/* Reads and solves a table with one byte changed. */
+static void ask_changed(u8 *bytes, u32 length, u32 place, u32 value)
+{
+    u8 kept = bytes[place];
+    bytes[place] = (u8)value;
+    ask_read(bytes, length);
+    ask_solve(bytes, length);
+    bytes[place] = kept;
+}
+
+static void ask_cut(const u8 *bytes, u32 length)
+{
+    ask_read(bytes, length);
+    ask_solve(bytes, length);
+}
+
+/* Each kind of refusal at each part at which it can stand. The table has a row,
+   and its last line a left entry. */
+static void ask_places(const struct draft *draft)
+{
+    u8 bytes[DRAFT_BYTES + 1];
+    u32 length = write_draft(draft, bytes);
+    u32 row = 10 + 2 * below_bound(&chance, draft->e);
+    u32 line = length - draft->line[draft->m - 1].p - 2;
+    u32 cuts[] = { below_bound(&chance, 10), row, row + 1, line, line + 1, length - 1 };
+    u32 codes[] = { row, row + 1, line + 1, length - 1 };
+    for (u32 i = 0; i < sizeof cuts / sizeof cuts[0]; i++) {
+        ask_cut(bytes, cuts[i]);
+    }
+    for (u32 i = 0; i < sizeof codes / sizeof codes[0]; i++) {
+        ask_changed(bytes, length, codes[i], between(&chance, 0x80, 0xFF));
+    }
+    ask_changed(bytes, length, below_bound(&chance, 3), 0x20);
+    ask_changed(bytes, length, 3, between(&chance, 2, 255));
+    ask_changed(bytes, length, 6, between(&chance, 17, 255));
+    ask_changed(bytes, length, 7, between(&chance, 13, 255));
+    ask_changed(bytes, length, 8, between(&chance, 25, 255));
+    ask_changed(bytes, length, 9, between(&chance, 65, 255));
+    ask_changed(bytes, length, line, 9);
+    ask_changed(bytes, length, line, between(&chance, 10, 255));
+    bytes[length] = (u8)draw(&chance);
+    ask_cut(bytes, length + 1);
+}
+
+static void group_places(void)
+{
+    struct draft draft;
+    make_full_table(&chance, walk, &draft);
+    ask_places(&draft);
+}
+
+/* The same of a table with the most rows and lines, and the longest lines. */
+static void group_far_places(void)
+{
+    struct draft draft;
+    draft_start(&draft, 0, 16, 12);
+    add_random_rows(&chance, &draft, 24);
+    add_easy_lines(&chance, &draft, 64, 8, 8);
+    ask_places(&draft);
 }
 
 /* Bytes after the last line: one, some, or as many as a question can have. */
@@ -446,9 +582,10 @@ struct group {
 };
 
 static const struct group groups[] = {
-    { 8100, group_table }, { 700, group_garbage }, { 550, group_after }, { 200, group_damage },
-    { 200, group_both },   { 100, group_truncation }, { 50, group_mark }, { 50, group_bounds },
-    { 30, group_values },  { 2, group_long_walk },
+    { 5600, group_table },    { 700, group_garbage }, { 550, group_after },   { 800, group_budgets },
+    { 200, group_damage },    { 200, group_both },    { 200, group_outputs }, { 100, group_truncation },
+    { 50, group_mark },       { 50, group_bounds },   { 30, group_values },   { 20, group_places },
+    { 5, group_far_places },  { 2, group_long_walk },
 };
 
 static void group_by_chance(void)
@@ -465,9 +602,17 @@ static void group_by_chance(void)
     groups[i].ask();
 }
 
-/* Each group of limits and damage once, and then groups by chance. */
+/* Each group of limits and damage once, and then groups by chance. What must not
+   be missing (kinds.c) is in the first ones, whatever the count. */
 static void ask_all(u64 count)
 {
+    group_places();
+    group_far_places();
+    ask_budgets(SOLVED);
+    ask_budgets(NONE);
+    group_output_bounds();
+    group_outputs();
+    group_lines();
     group_bounds();
     group_mark();
     group_damage();

@@ -24,6 +24,53 @@ int get_byte(void)
     return in[in_at++];
 }
 
+/* Reads a little-endian number. Answers 0 if the stream ends before it does. */
+static int get_number(u32 bytes, u32 *number)
+{
+    *number = 0;
+    for (u32 i = 0; i < bytes; i++) {
+        int byte = get_byte();
+        if (byte < 0) {
+            return 0;
+        }
+        *number |= (u32)byte << 8 * i;
+    }
+    return 1;
+}
+
+/* Reads what follows the kind of a question. Answers 0 if the stream is cut. */
+static int get_rest(struct question *question)
+{
+    if (question->kind < KIND_READ || question->kind > KIND_SOLVE) {
+        return 0;
+    }
+    if (!get_number(4, &question->number) || !get_number(2, &question->room)
+        || !get_number(2, &question->length) || question->length > MOST_TABLE) {
+        return 0;
+    }
+    if (question->room > MOST_OUTPUT) {
+        question->room = MOST_OUTPUT;
+    }
+    for (u32 i = 0; i < question->length; i++) {
+        int byte = get_byte();
+        if (byte < 0) {
+            return 0;
+        }
+        question->table[i] = (u8)byte;
+    }
+    return 1;
+}
+
+int get_question(struct question *question)
+{
+    int kind = get_byte();
+    if (kind < 0) {
+        return STREAM_ENDS;
+    }
+    question->kind = (u32)kind;
+    return get_rest(question) ? QUESTION : STREAM_CUT;
+}
+
 void flush(void)
 {
     u32 done = 0;

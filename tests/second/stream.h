@@ -30,6 +30,13 @@ struct question {
 /* The next byte of standard input, or -1 at its end. */
 int get_byte(void);
 
+/* What comes next in the stream on standard input. */
+enum { STREAM_ENDS, STREAM_CUT, QUESTION };
+
+/* Reads the next question, with its room taken as at most MOST_OUTPUT, and
+   answers which of the three it found. */
+int get_question(struct question *question);
+
 void put_byte(u32 byte);
 void put_text(const char *text);
 void put_number(u64 number);

@@ -5,21 +5,9 @@ use Rattle.batch.proofs.Laws.{solve-is}
 use Rattle.batch.proofs.solve_reply.Statement.{statement}
 use Rattle.batch.proofs.solve_reply.Tie as tie
 
-solve-requires : tie.Need-solve-requires
-solve-requires c κs = search needs
-
-solve-line-requires : tie.Need-solve-line-requires
-solve-line-requires c κs = search needs
-
-same-length : tie.Need-same-length
-same-length c = search needs
-
-same-length-2 : tie.Need-same-length-2
-same-length-2 c = search needs
-
 returns : tie.Need-returns
 returns c = solve-is (c .before .before .before .before .before .before .before .before .before .before .before .before .pre .1) _ _ _ _ (c .before .before .before .before .before .before .before .solve .result) (c .before .before .before .before .before .before .before .solve .ensures) (omega arith) (omega arith) (omega arith) (omega arith) (c .before .before .solve-line .ensures)
 
 pub solve-reply-spec : {M : Type 1} → statement M
 solve-reply-spec =
-    tie.close (tie.spec solve-requires solve-line-requires same-length same-length-2 returns)
+    tie.close (tie.spec (λ c κs. search needs) (λ c κs. search needs) (λ c. search needs) (λ c. search needs) returns)

@@ -20,30 +20,6 @@ abbrev μ-loop : tie.MeasureT-loop
 loop-holds : tie.Need-loop-holds Inv-loop μ-loop
 loop-holds c = (omega arith, omega arith, refl, listed-start _ _)
 
-mul-passes : tie.Need-mul-passes Inv-loop μ-loop
-mul-passes c = search needs
-
-shared-slice-read-passes : tie.Need-shared-slice-read-passes Inv-loop μ-loop
-shared-slice-read-passes c = search needs
-
-passes-requires : tie.Need-passes-requires Inv-loop μ-loop
-passes-requires c κs = search needs
-
-cast-fresh : tie.Need-cast-fresh Inv-loop μ-loop
-cast-fresh c = search needs
-
-array-write-fresh : tie.Need-array-write-fresh Inv-loop μ-loop
-array-write-fresh c = search needs
-
-add-few : tie.Need-add-few Inv-loop μ-loop
-add-few c = search needs
-
-add-n : tie.Need-add-n Inv-loop μ-loop
-add-n c = search needs
-
-loop-less : tie.Need-loop-less Inv-loop μ-loop
-loop-less c = search needs
-
 loop-again : tie.Need-loop-again Inv-loop μ-loop
 unfolding isFresh
 loop-again c =
@@ -66,13 +42,13 @@ collect-spec =
     Inv-loop
     μ-loop
     loop-holds
-    mul-passes
-    shared-slice-read-passes
-    passes-requires
-    cast-fresh
-    array-write-fresh
-    add-few
-    add-n
-    loop-less
+    (λ c. search needs)
+    (λ c. search needs)
+    (λ c κs. search needs)
+    (λ c. search needs)
+    (λ c. search needs)
+    (λ c. search needs)
+    (λ c. search needs)
+    (λ c. search needs)
     loop-again
     returns)

@@ -21,9 +21,6 @@ loop-holds c = (omega arith, lines-start _ _ _)
 shared-slice-read-wide : tie.Need-shared-slice-read-wide Inv-loop μ-loop
 shared-slice-read-wide c = (let f = c .before .before .before .before .before .before .before .pre .few-fit in let k = c .before .loop-test .taken in omega arith)
 
-wide-requires : tie.Need-wide-requires Inv-loop μ-loop
-wide-requires c κs = search needs
-
 mul-line-holds : tie.Need-mul-line-holds Inv-loop μ-loop
 mul-line-holds c = (let h = fresh-in _ _ _ _ _ _ _ _ (c .before .before .before .before .before .before .before .before .pre) _ _ (c .before .before .loop-test .taken) (c .wide .ensures) in search needs)
 
@@ -35,12 +32,6 @@ line-holds-requires c κs = fresh-line _ _ _ _ _ _ _ _ (c .before .before .befor
 
 returns : tie.Need-returns Inv-loop μ-loop
 returns c = lines-fail _ _ _ _ _ (c .before .before .before .wide .ensures) _ (c .before .line-holds .ensures) _ (c .before .before .before .before .before .loop-test .taken) (c .if1 .taken)
-
-add-i : tie.Need-add-i Inv-loop μ-loop
-add-i c = search needs
-
-loop-less : tie.Need-loop-less Inv-loop μ-loop
-loop-less c = search needs
 
 loop-again : tie.Need-loop-again Inv-loop μ-loop
 loop-again c = (omega arith, lines-next _ _ _ _ _ (c .before .before .before .wide .ensures) _ (c .before .line-holds .ensures) (c .if1 .left) (c .before .before .before .before .before .before .loop .inv .1))
@@ -56,12 +47,12 @@ fresh-fails-spec =
     μ-loop
     loop-holds
     shared-slice-read-wide
-    wide-requires
+    (λ c κs. search needs)
     mul-line-holds
     shared-slice-read-line-holds
     line-holds-requires
     returns
-    add-i
-    loop-less
+    (λ c. search needs)
+    (λ c. search needs)
     loop-again
     returns-2)

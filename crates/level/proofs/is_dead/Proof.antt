@@ -11,9 +11,6 @@ use Rattle.level.proofs.is_dead.Reads as reads
 use Rattle.level.proofs.is_dead.Lts as lts
 use Rattle.level.proofs.fresh_fails.Reads as fresh-fails-reads
 
-sub-x : tie.Need-sub-x
-sub-x c = search needs
-
 mul-x : tie.Need-mul-x
 mul-x c = (let h = child-place (c .before .before .before .before .pre) in search needs)
 
@@ -35,4 +32,4 @@ returns-3 c = c .fresh-fails .ensures ∙ child-fails (c .before .before .before
 pub is-dead-spec : {M : Type 1} → statement M
 is-dead-spec =
     tie.close
-    (tie.spec sub-x mul-x shared-slice-read-x returns returns-2 fresh-fails-requires returns-3)
+    (tie.spec (λ c. search needs) mul-x shared-slice-read-x returns returns-2 fresh-fails-requires returns-3)

@@ -8,9 +8,6 @@ use borrow.Author.Needs.{needs}
 use Rattle.level.proofs.level_of.Statement.{statement}
 use Rattle.level.proofs.level_of.Tie as tie
 
-sub-y : tie.Need-sub-y
-sub-y c = search needs
-
 mul-set : tie.Need-mul-set
 mul-set c = (let h = node-few _ _ _ _ _ (c .before .before .before .before .before .before .args .sets) (c .before .before .before .before .before .before .pre .0) in search needs)
 
@@ -28,9 +25,6 @@ cast-about c = (let h = node-few _ _ _ _ _ (c .before .before .before .before .b
 
 shl-about : tie.Need-shl-about
 shl-about c = (let h = node-few _ _ _ _ _ (c .before .before .before .before .before .before .before .before .args .sets) (c .before .before .before .before .before .before .before .before .pre .0) in search needs)
-
-add-settled-mask : tie.Need-add-settled-mask
-add-settled-mask c = search needs
 
 settled-mask-requires : tie.Need-settled-mask-requires
 settled-mask-requires c κs = (let h = node-few _ _ _ _ _ (c .before .before .before .before .before .before .before .before .args .sets) (c .before .before .before .before .before .before .before .before .pre .0) in omega arith)
@@ -53,14 +47,14 @@ pub level-of-spec : {M : Type 1} → statement M
 level-of-spec =
     tie.close
     (tie.spec
-    sub-y
+    (λ c. search needs)
     mul-set
     array-write-set
     square-of-requires
     leads-mask-requires
     cast-about
     shl-about
-    add-settled-mask
+    (λ c. search needs)
     settled-mask-requires
     ways-of-requires
     collect-requires

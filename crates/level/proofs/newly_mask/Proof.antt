@@ -24,24 +24,6 @@ returns c = new-empty _ _ _ (c .if1 .taken)
 loop-holds : tie.Need-loop-holds Inv-loop μ-loop
 loop-holds c = (omega arith, new-start _ _)
 
-cast-if2 : tie.Need-cast-if2 Inv-loop μ-loop
-cast-if2 c = search needs
-
-shr-if2 : tie.Need-shr-if2 Inv-loop μ-loop
-shr-if2 c = search needs
-
-mul-mask : tie.Need-mul-mask Inv-loop μ-loop
-mul-mask c = search needs
-
-shared-slice-read-mask : tie.Need-shared-slice-read-mask Inv-loop μ-loop
-shared-slice-read-mask c = search needs
-
-add-z : tie.Need-add-z Inv-loop μ-loop
-add-z c = search needs
-
-loop-less : tie.Need-loop-less Inv-loop μ-loop
-loop-less c = search needs
-
 loop-again : tie.Need-loop-again Inv-loop μ-loop
 loop-again c = (
   omega arith,
@@ -62,11 +44,11 @@ newly-mask-spec =
     μ-loop
     returns
     loop-holds
-    cast-if2
-    shr-if2
-    mul-mask
-    shared-slice-read-mask
-    add-z
-    loop-less
+    (λ c. search needs)
+    (λ c. search needs)
+    (λ c. search needs)
+    (λ c. search needs)
+    (λ c. search needs)
+    (λ c. search needs)
     loop-again
     returns-2)

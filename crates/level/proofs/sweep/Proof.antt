@@ -34,15 +34,6 @@ mul-x c = (let h = child-place (c .before .loop .inv .3) in search needs)
 array-read-x : tie.Need-array-read-x Inv-loop μ-loop
 array-read-x c = (let h = child-place (c .before .loop .inv .3) in search needs)
 
-add-passed : tie.Need-add-passed Inv-loop μ-loop
-add-passed c = search needs
-
-slice-aggregate-is-dead : tie.Need-slice-aggregate-is-dead Inv-loop μ-loop
-slice-aggregate-is-dead c = search needs
-
-slice-aggregate-is-dead-2 : tie.Need-slice-aggregate-is-dead-2 Inv-loop μ-loop
-slice-aggregate-is-dead-2 c = search needs
-
 is-dead-requires : tie.Need-is-dead-requires Inv-loop μ-loop
 is-dead-requires c κs = at-child (c .before .before .before .loop .inv .3) (c .before .before .before .loop .inv .2)
 
@@ -60,9 +51,6 @@ mul-set c = (let h = child-place (c .before .before .before .before .before .bef
 
 array-write-set : tie.Need-array-write-set Inv-loop μ-loop
 array-write-set c = (let h = child-place (c .before .before .before .before .before .before .loop .inv .3) in search needs)
-
-loop-less : tie.Need-loop-less Inv-loop μ-loop
-loop-less c = search needs
 
 loop-again : tie.Need-loop-again Inv-loop μ-loop
 loop-again c = (omega arith, simp length-set (c .before .before .before .before .before .before .loop .inv .1), at-next (c .before .before .before .before .before .before .loop .inv .3) (c .before .before .before .before .before .before .loop .inv .2) refl (c .before .before .is-dead .ensures) (not-false _ (c .before .if1 .left)) (omega arith), c .before .before .before .before .before .before .loop .inv .3)
@@ -86,16 +74,16 @@ sweep-spec =
     loop-holds
     mul-x
     array-read-x
-    add-passed
-    slice-aggregate-is-dead
-    slice-aggregate-is-dead-2
+    (λ c. search needs)
+    (λ c. search needs)
+    (λ c. search needs)
     is-dead-requires
     returns
     returns-2
     add-set
     mul-set
     array-write-set
-    loop-less
+    (λ c. search needs)
     loop-again
     mul-at
     array-read-at

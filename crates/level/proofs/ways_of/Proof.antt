@@ -18,50 +18,8 @@ abbrev μ-loop : tie.MeasureT-loop
 loop-holds : tie.Need-loop-holds Inv-loop μ-loop
 loop-holds c = (omega arith, ways-start _ _ _ _ _, ways-start _ _ _ _ _)
 
-slice-aggregate-newly-mask : tie.Need-slice-aggregate-newly-mask Inv-loop μ-loop
-slice-aggregate-newly-mask c = search needs
-
-mul-newly-mask : tie.Need-mul-newly-mask Inv-loop μ-loop
-mul-newly-mask c = search needs
-
-shared-slice-read-newly-mask : tie.Need-shared-slice-read-newly-mask Inv-loop μ-loop
-shared-slice-read-newly-mask c = search needs
-
 newly-mask-requires : tie.Need-newly-mask-requires Inv-loop μ-loop
 newly-mask-requires c κs = (omega arith, search needs)
-
-add-with-bit : tie.Need-add-with-bit Inv-loop μ-loop
-add-with-bit c = search needs
-
-cast-with-bit : tie.Need-cast-with-bit Inv-loop μ-loop
-cast-with-bit c = search needs
-
-shr-with-bit : tie.Need-shr-with-bit Inv-loop μ-loop
-shr-with-bit c = search needs
-
-with-bit-requires : tie.Need-with-bit-requires Inv-loop μ-loop
-with-bit-requires c κs = search needs
-
-add-with-bit-2 : tie.Need-add-with-bit-2 Inv-loop μ-loop
-add-with-bit-2 c = search needs
-
-add-with-bit-3 : tie.Need-add-with-bit-3 Inv-loop μ-loop
-add-with-bit-3 c = search needs
-
-cast-with-bit-2 : tie.Need-cast-with-bit-2 Inv-loop μ-loop
-cast-with-bit-2 c = search needs
-
-shr-with-bit-2 : tie.Need-shr-with-bit-2 Inv-loop μ-loop
-shr-with-bit-2 c = search needs
-
-with-bit-requires-2 : tie.Need-with-bit-requires-2 Inv-loop μ-loop
-with-bit-requires-2 c κs = search needs
-
-add-k : tie.Need-add-k Inv-loop μ-loop
-add-k c = search needs
-
-loop-less : tie.Need-loop-less Inv-loop μ-loop
-loop-less c = search needs
 
 loop-again : tie.Need-loop-again Inv-loop μ-loop
 unfolding bit
@@ -82,20 +40,20 @@ ways-of-spec =
     Inv-loop
     μ-loop
     loop-holds
-    slice-aggregate-newly-mask
-    mul-newly-mask
-    shared-slice-read-newly-mask
+    (λ c. search needs)
+    (λ c. search needs)
+    (λ c. search needs)
     newly-mask-requires
-    add-with-bit
-    cast-with-bit
-    shr-with-bit
-    with-bit-requires
-    add-with-bit-2
-    add-with-bit-3
-    cast-with-bit-2
-    shr-with-bit-2
-    with-bit-requires-2
-    add-k
-    loop-less
+    (λ c. search needs)
+    (λ c. search needs)
+    (λ c. search needs)
+    (λ c κs. search needs)
+    (λ c. search needs)
+    (λ c. search needs)
+    (λ c. search needs)
+    (λ c. search needs)
+    (λ c κs. search needs)
+    (λ c. search needs)
+    (λ c. search needs)
     loop-again
     returns)

@@ -4,12 +4,6 @@ use borrow.Author.Needs.{needs}
 use Rattle.level.proofs.with_bit.Statement.{statement}
 use Rattle.level.proofs.with_bit.Tie as tie
 
-cast-result : tie.Need-cast-result
-cast-result c = search needs
-
-shl-result : tie.Need-shl-result
-shl-result c = search needs
-
 returns : tie.Need-returns
 returns c = λ q is. bit-added q _ _ _ is (c .before .pre) (c .if1 .taken)
 
@@ -17,4 +11,4 @@ returns-2 : tie.Need-returns-2
 returns-2 c = λ q is. bit-kept q _ _ _ is (c .if1 .left)
 
 pub with-bit-spec : {M : Type 1} → statement M
-with-bit-spec = tie.close (tie.spec cast-result shl-result returns returns-2)
+with-bit-spec = tie.close (tie.spec (λ c. search needs) (λ c. search needs) returns returns-2)

@@ -6,21 +6,6 @@ use Rattle.makrothel.proofs.Laws.{finish-found, finish-nothing, finish-
 use Rattle.makrothel.proofs.finish.Statement.{statement}
 use Rattle.makrothel.proofs.finish.Tie as tie
 
-enum-told : tie.Need-enum-told
-enum-told c = search needs
-
-put-all-requires : tie.Need-put-all-requires
-put-all-requires c κs = search needs
-
-enum-told-2 : tie.Need-enum-told-2
-enum-told-2 c = search needs
-
-enum-told-3 : tie.Need-enum-told-3
-enum-told-3 c = search needs
-
-same-length : tie.Need-same-length
-same-length c = search needs
-
 returns-2 : tie.Need-returns-2
 unfolding answered step.outcomeOf
 returns-2 c = finish-nothing _ _ (c .enum-told2 .given .1)
@@ -37,11 +22,11 @@ pub finish-spec : {M : Type 1} → statement M
 finish-spec =
     tie.close
     (tie.spec
-    enum-told
-    put-all-requires
-    enum-told-2
-    enum-told-3
-    same-length
+    (λ c. search needs)
+    (λ c κs. search needs)
+    (λ c. search needs)
+    (λ c. search needs)
+    (λ c. search needs)
     returns
     returns-2
     returns-3)

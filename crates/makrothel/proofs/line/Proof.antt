@@ -7,41 +7,11 @@ use Rattle.makrothel.proofs.Laws.{header-there, line-refused, line-over
 use Rattle.makrothel.proofs.line.Statement.{statement}
 use Rattle.makrothel.proofs.line.Tie as tie
 
-check-requires : tie.Need-check-requires
-check-requires c κs = search needs
-
-enum-told : tie.Need-enum-told
-enum-told c = search needs
-
-sub-result : tie.Need-sub-result
-sub-result c = search needs
-
-part-result-start : tie.Need-part-result-start
-part-result-start c = search needs
-
-part-result-end : tie.Need-part-result-end
-part-result-end c = search needs
-
 returns : tie.Need-returns
 returns c = line-part (c .before .before .before .before .before .args .table) (c .before .before .before .before .before .args .n) (line-refused _ _ _ _ (sym (c .before .before .before .check .ensures) ∙ c .before .enum-told .given .1))
 
-enum-told-2 : tie.Need-enum-told-2
-enum-told-2 c = search needs
-
 shared-slice-read-count : tie.Need-shared-slice-read-count
 shared-slice-read-count c = omega (arith, header-there _ (sym (c .before .before .before .check .ensures) ∙ c .before .enum-told2 .given .1))
-
-count-requires : tie.Need-count-requires
-count-requires c κs = search needs
-
-sub-result-2 : tie.Need-sub-result-2
-sub-result-2 c = search needs
-
-part-result-start-2 : tie.Need-part-result-start-2
-part-result-start-2 c = search needs
-
-part-result-end-2 : tie.Need-part-result-end-2
-part-result-end-2 c = search needs
 
 returns-2 : tie.Need-returns-2
 returns-2 c = line-part (c .before .before .before .before .before .before .before .before .args .table) (c .before .before .before .before .before .before .before .before .args .n) (line-over _ (sym (c .before .before .before .before .before .before .check .ensures) ∙ c .before .before .before .before .enum-told2 .given .1) _ _ (c .before .before .count .ensures) (omega arith))
@@ -52,20 +22,11 @@ line-start-requires c κs = (readable-is _ (sym (c .before .before .before .befo
 shared-slice-read-wide : tie.Need-shared-slice-read-wide
 shared-slice-read-wide c = omega (arith, line-room _ (sym (c .before .before .before .before .before .before .before .check .ensures) ∙ c .before .before .before .before .before .enum-told2 .given .1) _ _ (omega arith) (c .before .line-start .ensures))
 
-wide-requires : tie.Need-wide-requires
-wide-requires c κs = search needs
-
 add-end : tie.Need-add-end
 add-end c = omega (arith, line-room _ (sym (c .before .before .before .before .before .before .before .before .check .ensures) ∙ c .before .before .before .before .before .before .enum-told2 .given .1) _ _ (omega arith) (c .before .before .line-start .ensures))
 
 add-end-2 : tie.Need-add-end-2
 add-end-2 c = omega (arith, line-room _ (sym (c .before .before .before .before .before .before .before .before .check .ensures) ∙ c .before .before .before .before .before .before .enum-told2 .given .1) _ _ (omega arith) (c .before .before .line-start .ensures))
-
-sub-result-3 : tie.Need-sub-result-3
-sub-result-3 c = search needs
-
-part-result-start-3 : tie.Need-part-result-start-3
-part-result-start-3 c = search needs
 
 part-result-end-3 : tie.Need-part-result-end-3
 part-result-end-3 c = omega (arith, line-room _ (sym (c .before .before .before .before .before .before .before .before .check .ensures) ∙ c .before .before .before .before .before .before .enum-told2 .given .1) _ _ (omega arith) (c .before .before .line-start .ensures))
@@ -77,25 +38,25 @@ pub line-spec : {M : Type 1} → statement M
 line-spec =
     tie.close
     (tie.spec
-    check-requires
-    enum-told
-    sub-result
-    part-result-start
-    part-result-end
+    (λ c κs. search needs)
+    (λ c. search needs)
+    (λ c. search needs)
+    (λ c. search needs)
+    (λ c. search needs)
     returns
-    enum-told-2
+    (λ c. search needs)
     shared-slice-read-count
-    count-requires
-    sub-result-2
-    part-result-start-2
-    part-result-end-2
+    (λ c κs. search needs)
+    (λ c. search needs)
+    (λ c. search needs)
+    (λ c. search needs)
     returns-2
     line-start-requires
     shared-slice-read-wide
-    wide-requires
+    (λ c κs. search needs)
     add-end
     add-end-2
-    sub-result-3
-    part-result-start-3
+    (λ c. search needs)
+    (λ c. search needs)
     part-result-end-3
     returns-3)

@@ -6,44 +6,20 @@ use Rattle.makrothel.proofs.Laws.{header-there, read-refused, read-read
 use Rattle.makrothel.proofs.read.Statement.{statement}
 use Rattle.makrothel.proofs.read.Tie as tie
 
-check-requires : tie.Need-check-requires
-check-requires c κs = search needs
-
-enum-known-number : tie.Need-enum-known-number
-enum-known-number c = search needs
-
-enum-told : tie.Need-enum-told
-enum-told c = search needs
-
 shared-slice-read-count : tie.Need-shared-slice-read-count
 shared-slice-read-count c = omega (arith, header-there _ (sym (c .before .before .before .check .ensures) ∙ c .before .enum-told .given .1))
-
-count-requires : tie.Need-count-requires
-count-requires c κs = search needs
 
 shared-slice-read-count-2 : tie.Need-shared-slice-read-count-2
 shared-slice-read-count-2 c = omega (arith, header-there _ (sym (c .before .before .before .before .before .check .ensures) ∙ c .before .before .before .enum-told .given .1))
 
-count-requires-2 : tie.Need-count-requires-2
-count-requires-2 c κs = search needs
-
 shared-slice-read-count-3 : tie.Need-shared-slice-read-count-3
 shared-slice-read-count-3 c = omega (arith, header-there _ (sym (c .before .before .before .before .before .before .before .check .ensures) ∙ c .before .before .before .before .before .enum-told .given .1))
-
-count-requires-3 : tie.Need-count-requires-3
-count-requires-3 c κs = search needs
 
 shared-slice-read-count-4 : tie.Need-shared-slice-read-count-4
 shared-slice-read-count-4 c = omega (arith, header-there _ (sym (c .before .before .before .before .before .before .before .before .before .check .ensures) ∙ c .before .before .before .before .before .before .before .enum-told .given .1))
 
-count-requires-4 : tie.Need-count-requires-4
-count-requires-4 c κs = search needs
-
 shared-slice-read-count-5 : tie.Need-shared-slice-read-count-5
 shared-slice-read-count-5 c = omega (arith, header-there _ (sym (c .before .before .before .before .before .before .before .before .before .before .before .check .ensures) ∙ c .before .before .before .before .before .before .before .before .before .enum-told .given .1))
-
-count-requires-5 : tie.Need-count-requires-5
-count-requires-5 c κs = search needs
 
 returns : tie.Need-returns
 returns c = read-refused _ _ _ (sym (c .before .before .before .check .ensures) ∙ c .before .number .given .1)
@@ -55,18 +31,18 @@ pub read-spec : {M : Type 1} → statement M
 read-spec =
     tie.close
     (tie.spec
-    check-requires
-    enum-known-number
-    enum-told
+    (λ c κs. search needs)
+    (λ c. search needs)
+    (λ c. search needs)
     shared-slice-read-count
-    count-requires
+    (λ c κs. search needs)
     shared-slice-read-count-2
-    count-requires-2
+    (λ c κs. search needs)
     shared-slice-read-count-3
-    count-requires-3
+    (λ c κs. search needs)
     shared-slice-read-count-4
-    count-requires-4
+    (λ c κs. search needs)
     shared-slice-read-count-5
-    count-requires-5
+    (λ c κs. search needs)
     returns
     returns-2)

@@ -9,24 +9,12 @@ use Rattle.makrothel.proofs.Laws.{header-there, solve-refused, solve-sh
 use Rattle.makrothel.proofs.solve.Statement.{statement}
 use Rattle.makrothel.proofs.solve.Tie as tie
 
-check-requires : tie.Need-check-requires
-check-requires c κs = search needs
-
-enum-known-number : tie.Need-enum-known-number
-enum-known-number c = search needs
-
 returns : tie.Need-returns
 unfolding answered
 returns c = solve-refused _ _ _ _ _ (sym (c .before .before .before .check .ensures) ∙ c .before .number .given .1)
 
-enum-told : tie.Need-enum-told
-enum-told c = search needs
-
 shared-slice-read-wide : tie.Need-shared-slice-read-wide
 shared-slice-read-wide c = omega (arith, header-there _ (sym (c .before .before .before .check .ensures) ∙ c .before .enum-told .given .1))
-
-wide-requires : tie.Need-wide-requires
-wide-requires c κs = search needs
 
 mul-needed : tie.Need-mul-needed
 mul-needed c = omega (arith, layout _ (readable-is _ (sym (c .before .before .before .before .check .ensures) ∙ c .before .before .enum-told .given .1)) .few-variables)
@@ -45,9 +33,6 @@ finish-requires c κs =
     let k = c .before .walk .ensures .1 in
     (omega arith, omega arith))
 
-same-length : tie.Need-same-length
-same-length c = search needs
-
 returns-3 : tie.Need-returns-3
 returns-3 c =
     (c .before .before .finish .ensures ∙ ap (λ (o : Outcome). outcomeAs o (c .before .before .before .before .before .before .before .before .before .before .before .before .before .args .out .now)) (c .before .before .before .before .walk .ensures .0)
@@ -57,15 +42,15 @@ pub solve-spec : {M : Type 1} → statement M
 solve-spec =
     tie.close
     (tie.spec
-    check-requires
-    enum-known-number
+    (λ c κs. search needs)
+    (λ c. search needs)
     returns
-    enum-told
+    (λ c. search needs)
     shared-slice-read-wide
-    wide-requires
+    (λ c κs. search needs)
     mul-needed
     returns-2
     walk-requires
     finish-requires
-    same-length
+    (λ c. search needs)
     returns-3)

@@ -18,27 +18,6 @@ abbrev μ-loop : tie.MeasureT-loop
 loop-holds : tie.Need-loop-holds Inv-loop μ-loop
 loop-holds c = (omega arith, search needs, direct-start _)
 
-mul-depends-row : tie.Need-mul-depends-row Inv-loop μ-loop
-mul-depends-row c = search needs
-
-array-read-depends-row : tie.Need-array-read-depends-row Inv-loop μ-loop
-array-read-depends-row c = search needs
-
-depends-row-requires : tie.Need-depends-row-requires Inv-loop μ-loop
-depends-row-requires c κs = search needs
-
-mul-row : tie.Need-mul-row Inv-loop μ-loop
-mul-row c = search needs
-
-array-write-row : tie.Need-array-write-row Inv-loop μ-loop
-array-write-row c = search needs
-
-add-x : tie.Need-add-x Inv-loop μ-loop
-add-x c = search needs
-
-loop-less : tie.Need-loop-less Inv-loop μ-loop
-loop-less c = search needs
-
 loop-again : tie.Need-loop-again Inv-loop μ-loop
 unfolding dependsFrom
 loop-again c = (omega arith, simp length-set (c .before .before .loop .inv .1), direct-more _ _ _ _ (omega arith) (c .before .before .loop .inv .2) (c .depends-row .ensures))
@@ -53,12 +32,12 @@ direct-rows-spec =
     Inv-loop
     μ-loop
     loop-holds
-    mul-depends-row
-    array-read-depends-row
-    depends-row-requires
-    mul-row
-    array-write-row
-    add-x
-    loop-less
+    (λ c. search needs)
+    (λ c. search needs)
+    (λ c κs. search needs)
+    (λ c. search needs)
+    (λ c. search needs)
+    (λ c. search needs)
+    (λ c. search needs)
     loop-again
     returns)

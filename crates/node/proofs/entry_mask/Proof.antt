@@ -6,38 +6,11 @@ use Rattle.node.specs.CodeLaws.{entry-fits, entry-bare, entry-row-in, en
 use Rattle.node.proofs.entry_mask.Statement.{statement}
 use Rattle.node.proofs.entry_mask.Tie as tie
 
-kind-of-requires : tie.Need-kind-of-requires
-kind-of-requires c κs = search needs
-
-enum-told : tie.Need-enum-told
-enum-told c = search needs
-
-enum-told-2 : tie.Need-enum-told-2
-enum-told-2 c = search needs
-
-enum-known-k : tie.Need-enum-known-k
-enum-known-k c = search needs
-
-wide-requires : tie.Need-wide-requires
-wide-requires c κs = search needs
-
 filler-mask-requires : tie.Need-filler-mask-requires
 filler-mask-requires c κs = (c .before .before .before .before .before .before .pre .0, entry-row-in _ _ _ _ _ (c .before .before .before .before .before .before .pre .1 .1) _ _ (sym (c .before .before .before .before .kind-of .ensures) ∙ c .before .before .k .given .1) (c .wide .ensures))
 
-enum-known-x : tie.Need-enum-known-x
-enum-known-x c = search needs
-
-wide-requires-2 : tie.Need-wide-requires-2
-wide-requires-2 c κs = search needs
-
-cast-result : tie.Need-cast-result
-cast-result c = search needs
-
 shl-result : tie.Need-shl-result
 shl-result c = let h = entry-fits _ _ _ _ _ (c .before .before .before .before .before .before .pre .1 .1) _ _ (sym (c .before .before .before .before .kind-of .ensures) ∙ c .before .before .x .given .1) (c .wide2 .ensures) in let v = c .before .before .before .before .before .before .pre .0 .few-variables in omega arith
-
-enum-told-3 : tie.Need-enum-told-3
-enum-told-3 c = search needs
 
 returns : tie.Need-returns
 returns c = λ x is. entry-bare _ _ _ _ x is _ _ (sym (c .before .before .kind-of .ensures) ∙ c .enum-told .given .1) tt
@@ -58,17 +31,17 @@ pub entry-mask-spec : {M : Type 1} → statement M
 entry-mask-spec =
     tie.close
     (tie.spec
-    kind-of-requires
-    enum-told
-    enum-told-2
-    enum-known-k
-    wide-requires
+    (λ c κs. search needs)
+    (λ c. search needs)
+    (λ c. search needs)
+    (λ c. search needs)
+    (λ c κs. search needs)
     filler-mask-requires
-    enum-known-x
-    wide-requires-2
-    cast-result
+    (λ c. search needs)
+    (λ c κs. search needs)
+    (λ c. search needs)
     shl-result
-    enum-told-3
+    (λ c. search needs)
     returns
     returns-2
     returns-3

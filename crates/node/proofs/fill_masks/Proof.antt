@@ -19,21 +19,6 @@ abbrev μ-loop : tie.MeasureT-loop
 loop-holds : tie.Need-loop-holds Inv-loop μ-loop
 loop-holds c = (omega arith, search needs, fill-none _ _)
 
-filler-mask-requires : tie.Need-filler-mask-requires Inv-loop μ-loop
-filler-mask-requires c κs = search needs
-
-mul-fill : tie.Need-mul-fill Inv-loop μ-loop
-mul-fill c = search needs
-
-array-write-fill : tie.Need-array-write-fill Inv-loop μ-loop
-array-write-fill c = search needs
-
-add-k : tie.Need-add-k Inv-loop μ-loop
-add-k c = search needs
-
-loop-less : tie.Need-loop-less Inv-loop μ-loop
-loop-less c = search needs
-
 loop-again : tie.Need-loop-again Inv-loop μ-loop
 loop-again c = (omega arith, simp length-set (c .before .before .loop .inv .1), fill-more _ _ _ _ (omega arith) (c .before .before .loop .inv .2) (c .filler-mask .ensures))
 
@@ -47,10 +32,10 @@ fill-masks-spec =
     Inv-loop
     μ-loop
     loop-holds
-    filler-mask-requires
-    mul-fill
-    array-write-fill
-    add-k
-    loop-less
+    (λ c κs. search needs)
+    (λ c. search needs)
+    (λ c. search needs)
+    (λ c. search needs)
+    (λ c. search needs)
     loop-again
     returns)

@@ -6,41 +6,11 @@ use Rattle.node.specs.CodeLaws.{filler-fits, filler-bare, filler-never, 
 use Rattle.node.proofs.filler_mask.Statement.{statement}
 use Rattle.node.proofs.filler_mask.Tie as tie
 
-mul-kind-of : tie.Need-mul-kind-of
-mul-kind-of c = search needs
-
-add-kind-of : tie.Need-add-kind-of
-add-kind-of c = search needs
-
 shared-slice-read-kind-of : tie.Need-shared-slice-read-kind-of
 shared-slice-read-kind-of c = c .before .before .pre .0 .row-in _ (c .before .before .pre .1)
 
-kind-of-requires : tie.Need-kind-of-requires
-kind-of-requires c κs = search needs
-
-enum-told : tie.Need-enum-told
-enum-told c = search needs
-
-enum-told-2 : tie.Need-enum-told-2
-enum-told-2 c = search needs
-
-enum-told-3 : tie.Need-enum-told-3
-enum-told-3 c = search needs
-
-enum-known-x : tie.Need-enum-known-x
-enum-known-x c = search needs
-
-wide-requires : tie.Need-wide-requires
-wide-requires c κs = search needs
-
-cast-result : tie.Need-cast-result
-cast-result c = search needs
-
 shl-result : tie.Need-shl-result
 shl-result c = let h = filler-fits _ _ _ _ (c .before .before .before .before .before .before .before .pre .0 .row-filler _ (c .before .before .before .before .before .before .before .pre .1)) _ _ (sym (c .before .before .before .before .kind-of .ensures) ∙ c .before .before .x .given .1) (c .wide .ensures) in let v = c .before .before .before .before .before .before .before .pre .0 .few-variables in omega arith
-
-enum-told-4 : tie.Need-enum-told-4
-enum-told-4 c = search needs
 
 returns : tie.Need-returns
 returns c = filler-bare _ _ _ _ (c .before .before .before .before .before .pre .0 .row-filler _ (c .before .before .before .before .before .pre .1)) _ (sym (c .before .before .kind-of .ensures) ∙ c .enum-told .given .1) tt
@@ -61,18 +31,18 @@ pub filler-mask-spec : {M : Type 1} → statement M
 filler-mask-spec =
     tie.close
     (tie.spec
-    mul-kind-of
-    add-kind-of
+    (λ c. search needs)
+    (λ c. search needs)
     shared-slice-read-kind-of
-    kind-of-requires
-    enum-told
-    enum-told-2
-    enum-told-3
-    enum-known-x
-    wide-requires
-    cast-result
+    (λ c κs. search needs)
+    (λ c. search needs)
+    (λ c. search needs)
+    (λ c. search needs)
+    (λ c. search needs)
+    (λ c κs. search needs)
+    (λ c. search needs)
     shl-result
-    enum-told-4
+    (λ c. search needs)
     returns
     returns-2
     returns-3

@@ -9,9 +9,6 @@ use Rattle.node.proofs.is_dead.Tie as tie
 prepare-requires : tie.Need-prepare-requires
 prepare-requires c κs = (c .before .pre .readable, c .before .pre .restrictions, c .before .pre .lines)
 
-slice-aggregate-square-of : tie.Need-slice-aggregate-square-of
-slice-aggregate-square-of c = search needs
-
 square-of-requires : tie.Need-square-of-requires
 square-of-requires c κs = square-needs _ _ _ _ _ (c .before .before .before .before .args .sets) (c .before .before .before .before .pre) (c .before .before .prepare .result .fill) (c .before .before .prepare .ensures .fill-room)
 
@@ -24,12 +21,6 @@ returns c = sym (node-cyclic _ _ _ _ _ (c .before .before .before .before .befor
 settled-mask-requires : tie.Need-settled-mask-requires
 settled-mask-requires c κs = node-few _ _ _ _ _ (c .before .before .before .before .before .before .before .args .sets) (c .before .before .before .before .before .before .before .pre)
 
-slice-aggregate-some-fails : tie.Need-slice-aggregate-some-fails
-slice-aggregate-some-fails c = search needs
-
-slice-aggregate-some-fails-2 : tie.Need-slice-aggregate-some-fails-2
-slice-aggregate-some-fails-2 c = search needs
-
 some-fails-requires : tie.Need-some-fails-requires
 some-fails-requires c κs = node-lines _ _ _ _ _ (c .before .before .before .before .before .before .before .before .before .before .before .before .args .sets) (c .before .before .before .before .before .before .before .before .before .before .before .before .pre) _ _ _ _ (c .before .before .before .before .before .before .before .before .before .before .prepare .ensures) (c .before .before .before .before .before .before .before .square-of .ensures) (search (needs, c .before .before .before .before .before .before .before .before .before .before .before .before .good)) (sym (c .before .before .before .before .before .before .is-acyclic .ensures) ∙ not-false _ (c .before .before .before .before .before .if1 .left)) _ (c .before .before .before .before .settled-mask .ensures)
 
@@ -41,12 +32,12 @@ is-dead-spec =
     tie.close
     (tie.spec
     prepare-requires
-    slice-aggregate-square-of
+    (λ c. search needs)
     square-of-requires
     is-acyclic-requires
     returns
     settled-mask-requires
-    slice-aggregate-some-fails
-    slice-aggregate-some-fails-2
+    (λ c. search needs)
+    (λ c. search needs)
     some-fails-requires
     returns-2)

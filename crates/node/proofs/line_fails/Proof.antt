@@ -8,9 +8,6 @@ use Rattle.node.proofs.line_fails.Tie as tie
 returns : tie.Need-returns
 returns c = sym (test-not _ _ _ _ _ _ (c .before .before .args .sets) _ _ (c .before .before .pre) (c .if1 .taken))
 
-slice-aggregate-line-holds : tie.Need-slice-aggregate-line-holds
-slice-aggregate-line-holds c = search needs
-
 line-holds-requires : tie.Need-line-holds-requires
 line-holds-requires c κs = test-given _ _ _ _ _ _ (c .before .before .before .before .args .sets) _ _ (c .before .before .before .before .pre) (search needs)
 
@@ -19,4 +16,4 @@ returns-2 c = test-ready _ _ _ _ _ _ (c .before .before .before .before .before 
 
 pub line-fails-spec : {M : Type 1} → statement M
 line-fails-spec =
-    tie.close (tie.spec returns slice-aggregate-line-holds line-holds-requires returns-2)
+    tie.close (tie.spec returns (λ c. search needs) line-holds-requires returns-2)

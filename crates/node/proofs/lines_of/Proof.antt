@@ -18,47 +18,17 @@ Inv-loop table e m mask₀ start₀ at₀ n₀ mask start at n = (n ≤ m) × (l
 abbrev μ-loop : tie.MeasureT-loop
 μ-loop table e m mask₀ start₀ at₀ n₀ mask start at n = m - n
 
-mul-at : tie.Need-mul-at Inv-loop μ-loop
-mul-at c = search needs
-
-add-at : tie.Need-add-at Inv-loop μ-loop
-add-at c = search needs
-
 loop-holds : tie.Need-loop-holds Inv-loop μ-loop
 loop-holds c = (omega arith, search needs, search needs, start-first _ _ (c .before .pre .1), lines-none _ _, starts-none _ _)
 
-line-mask-requires : tie.Need-line-mask-requires Inv-loop μ-loop
-line-mask-requires c κs = search needs
-
-mul-mask : tie.Need-mul-mask Inv-loop μ-loop
-mul-mask c = search needs
-
-array-write-mask : tie.Need-array-write-mask Inv-loop μ-loop
-array-write-mask c = search needs
-
-mul-start : tie.Need-mul-start Inv-loop μ-loop
-mul-start c = search needs
-
-array-write-start : tie.Need-array-write-start Inv-loop μ-loop
-array-write-start c = search needs
-
 shared-slice-read-wide : tie.Need-shared-slice-read-wide Inv-loop μ-loop
 shared-slice-read-wide c = line-start _ _ _ _ (c .before .before .before .before .before .pre .0) (in-lines (c .before .before .before .before .before .args .table .now) _ _ (c .before .before .before .before .before .pre .2) (c .before .before .loop-test .taken)) (c .before .before .before .loop .inv .3)
-
-wide-requires : tie.Need-wide-requires Inv-loop μ-loop
-wide-requires c κs = search needs
 
 add-at-2 : tie.Need-add-at-2 Inv-loop μ-loop
 add-at-2 c = let l = line-lies _ _ _ _ _ (c .before .before .before .before .before .before .pre .0) (in-lines (c .before .before .before .before .before .before .args .table .now) _ _ (c .before .before .before .before .before .before .pre .2) (c .before .before .before .loop-test .taken)) (c .before .before .before .before .loop .inv .3) (c .wide .ensures) in omega arith
 
 add-at-3 : tie.Need-add-at-3 Inv-loop μ-loop
 add-at-3 c = let l = line-lies _ _ _ _ _ (c .before .before .before .before .before .before .pre .0) (in-lines (c .before .before .before .before .before .before .args .table .now) _ _ (c .before .before .before .before .before .before .pre .2) (c .before .before .before .loop-test .taken)) (c .before .before .before .before .loop .inv .3) (c .wide .ensures) in omega arith
-
-add-n : tie.Need-add-n Inv-loop μ-loop
-add-n c = search needs
-
-loop-less : tie.Need-loop-less Inv-loop μ-loop
-loop-less c = search needs
 
 loop-again : tie.Need-loop-again Inv-loop μ-loop
 loop-again c = (
@@ -79,19 +49,19 @@ lines-of-spec =
     (tie.spec
     Inv-loop
     μ-loop
-    mul-at
-    add-at
+    (λ c. search needs)
+    (λ c. search needs)
     loop-holds
-    line-mask-requires
-    mul-mask
-    array-write-mask
-    mul-start
-    array-write-start
+    (λ c κs. search needs)
+    (λ c. search needs)
+    (λ c. search needs)
+    (λ c. search needs)
+    (λ c. search needs)
     shared-slice-read-wide
-    wide-requires
+    (λ c κs. search needs)
     add-at-2
     add-at-3
-    add-n
-    loop-less
+    (λ c. search needs)
+    (λ c. search needs)
     loop-again
     returns)

@@ -19,29 +19,11 @@ abbrev μ-loop : tie.MeasureT-loop
 loop-holds : tie.Need-loop-holds Inv-loop μ-loop
 loop-holds c = (omega arith, fails-none _ _)
 
-mul-line-fails : tie.Need-mul-line-fails Inv-loop μ-loop
-mul-line-fails c = omega arith
-
-shared-slice-read-line-fails : tie.Need-shared-slice-read-line-fails Inv-loop μ-loop
-shared-slice-read-line-fails c = omega arith
-
-mul-line-fails-2 : tie.Need-mul-line-fails-2 Inv-loop μ-loop
-mul-line-fails-2 c = omega arith
-
-shared-slice-read-line-fails-2 : tie.Need-shared-slice-read-line-fails-2 Inv-loop μ-loop
-shared-slice-read-line-fails-2 c = omega arith
-
 line-fails-requires : tie.Need-line-fails-requires Inv-loop μ-loop
 line-fails-requires c κs = line-test _ _ _ _ _ (c .before .before .before .before .before .before .before .args .sets) _ _ _ _ (c .before .before .before .before .before .before .before .pre) (c .before .before .loop-test .taken)
 
 returns : tie.Need-returns Inv-loop μ-loop
 returns c = sym (fails-found _ _ _ _ (c .before .before .before .before .loop-test .taken) (sym (c .before .line-fails .ensures) ∙ c .if1 .taken))
-
-add-n : tie.Need-add-n Inv-loop μ-loop
-add-n c = search needs
-
-loop-less : tie.Need-loop-less Inv-loop μ-loop
-loop-less c = search needs
 
 loop-again : tie.Need-loop-again Inv-loop μ-loop
 loop-again c = (omega arith, fails-more _ _ _ (c .before .before .before .before .before .loop .inv .1) (sym (c .before .line-fails .ensures) ∙ c .if1 .left))
@@ -56,13 +38,13 @@ some-fails-spec =
     Inv-loop
     μ-loop
     loop-holds
-    mul-line-fails
-    shared-slice-read-line-fails
-    mul-line-fails-2
-    shared-slice-read-line-fails-2
+    (λ c. omega arith)
+    (λ c. omega arith)
+    (λ c. omega arith)
+    (λ c. omega arith)
     line-fails-requires
     returns
-    add-n
-    loop-less
+    (λ c. search needs)
+    (λ c. search needs)
     loop-again
     returns-2)

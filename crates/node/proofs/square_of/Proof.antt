@@ -7,16 +7,10 @@ use Rattle.node.specs.SquareLaws.{square-shows}
 use Rattle.node.proofs.square_of.Statement.{statement}
 use Rattle.node.proofs.square_of.Tie as tie
 
-direct-rows-requires : tie.Need-direct-rows-requires
-direct-rows-requires c κs = search needs
-
-close-requires : tie.Need-close-requires
-close-requires c κs = search needs
-
 returns : tie.Need-returns
 returns c =
     let h : length (c .before .before .before .args .sets .set) ≡ 12 = search needs in
     square-shows _ _ _ (c .before .before .before .args .sets) _ _ (c .before .before .before .pre .3) (omega arith) (c .before .direct-rows .ensures) (c .close .ensures)
 
 pub square-of-spec : {M : Type 1} → statement M
-square-of-spec = tie.close (tie.spec direct-rows-requires close-requires returns)
+square-of-spec = tie.close (tie.spec (λ c κs. search needs) (λ c κs. search needs) returns)

@@ -5,15 +5,9 @@ use borrow.Author.Needs.{needs}
 use Rattle.order.proofs.bit_of.Statement.{statement}
 use Rattle.order.proofs.bit_of.Tie as tie
 
-cast-result : tie.Need-cast-result
-cast-result c = search needs
-
-shr-result : tie.Need-shr-result
-shr-result c = search needs
-
 returns : tie.Need-returns
 unfolding bit
 returns c = refl
 
 pub bit-of-spec : {M : Type 1} → statement M
-bit-of-spec = tie.close (tie.spec cast-result shr-result returns)
+bit-of-spec = tie.close (tie.spec (λ c. search needs) (λ c. search needs) returns)

@@ -5,53 +5,14 @@ use borrow.Author.Needs.{needs}
 use Rattle.order.proofs.entry_set.Statement.{statement}
 use Rattle.order.proofs.entry_set.Tie as tie
 
-kind-of-requires : tie.Need-kind-of-requires
-kind-of-requires c κs = search needs
-
-enum-told : tie.Need-enum-told
-enum-told c = search needs
-
-enum-known-k : tie.Need-enum-known-k
-enum-known-k c = search needs
-
-wide-requires : tie.Need-wide-requires
-wide-requires c κs = search needs
-
-cast-result : tie.Need-cast-result
-cast-result c = search needs
-
 shl-result : tie.Need-shl-result
 shl-result c = entry-constant-fits _ _ _ _ (c .before .before .before .before .before .before .before .pre .0) _ _ _ (c .wide .ensures) (c .before .before .before .before .before .before .before .pre .1) (sym (c .before .before .before .before .kind-of .ensures) ∙ c .before .before .k .given .1)
-
-enum-known-k-2 : tie.Need-enum-known-k-2
-enum-known-k-2 c = search needs
-
-wide-requires-2 : tie.Need-wide-requires-2
-wide-requires-2 c κs = search needs
-
-add-result : tie.Need-add-result
-add-result c = search needs
-
-cast-result-2 : tie.Need-cast-result-2
-cast-result-2 c = search needs
 
 shl-result-2 : tie.Need-shl-result-2
 shl-result-2 c = entry-restriction-fits _ _ _ _ (c .before .before .before .before .before .before .before .pre .0) _ _ _ (c .wide2 .ensures) (c .before .before .before .before .before .before .before .pre .1) (sym (c .before .before .before .before .kind-of .ensures) ∙ c .before .before .k2 .given .1)
 
-enum-known-y : tie.Need-enum-known-y
-enum-known-y c = search needs
-
-wide-requires-3 : tie.Need-wide-requires-3
-wide-requires-3 c κs = search needs
-
-mul-result : tie.Need-mul-result
-mul-result c = search needs
-
 shared-slice-read-result : tie.Need-shared-slice-read-result
 shared-slice-read-result c = entry-variable-fits _ _ _ _ (c .before .before .before .before .before .before .before .before .pre .0) _ _ _ (c .before .wide3 .ensures) (c .before .before .before .before .before .before .before .before .pre .1) (sym (c .before .before .before .before .before .kind-of .ensures) ∙ c .before .before .before .y .given .1)
-
-enum-told-2 : tie.Need-enum-told-2
-enum-told-2 c = search needs
 
 returns : tie.Need-returns
 returns c = entry-none _ _ _ _ (sym (c .before .before .kind-of .ensures) ∙ c .enum-told .given .1) refl
@@ -72,22 +33,22 @@ pub entry-set-spec : {M : Type 1} → statement M
 entry-set-spec =
     tie.close
     (tie.spec
-    kind-of-requires
-    enum-told
-    enum-known-k
-    wide-requires
-    cast-result
+    (λ c κs. search needs)
+    (λ c. search needs)
+    (λ c. search needs)
+    (λ c κs. search needs)
+    (λ c. search needs)
     shl-result
-    enum-known-k-2
-    wide-requires-2
-    add-result
-    cast-result-2
+    (λ c. search needs)
+    (λ c κs. search needs)
+    (λ c. search needs)
+    (λ c. search needs)
     shl-result-2
-    enum-known-y
-    wide-requires-3
-    mul-result
+    (λ c. search needs)
+    (λ c κs. search needs)
+    (λ c. search needs)
     shared-slice-read-result
-    enum-told-2
+    (λ c. search needs)
     returns
     returns-2
     returns-3

@@ -5,41 +5,11 @@ use borrow.Author.Needs.{needs}
 use Rattle.order.proofs.filler_set.Statement.{statement}
 use Rattle.order.proofs.filler_set.Tie as tie
 
-kind-of-requires : tie.Need-kind-of-requires
-kind-of-requires c κs = search needs
-
-enum-told : tie.Need-enum-told
-enum-told c = search needs
-
-enum-known-k : tie.Need-enum-known-k
-enum-known-k c = search needs
-
-wide-requires : tie.Need-wide-requires
-wide-requires c κs = search needs
-
-cast-result : tie.Need-cast-result
-cast-result c = search needs
-
 shl-result : tie.Need-shl-result
 shl-result c = filler-constant-fits _ _ _ _ (c .before .before .before .before .before .before .before .pre .0) _ _ _ (c .wide .ensures) (c .before .before .before .before .before .before .before .pre .1) (sym (c .before .before .before .before .kind-of .ensures) ∙ c .before .before .k .given .1)
 
-enum-told-2 : tie.Need-enum-told-2
-enum-told-2 c = search needs
-
-enum-known-x : tie.Need-enum-known-x
-enum-known-x c = search needs
-
-wide-requires-2 : tie.Need-wide-requires-2
-wide-requires-2 c κs = search needs
-
-mul-result : tie.Need-mul-result
-mul-result c = search needs
-
 shared-slice-read-result : tie.Need-shared-slice-read-result
 shared-slice-read-result c = filler-variable-fits _ _ _ _ (c .before .before .before .before .before .before .before .before .pre .0) _ _ _ (c .before .wide2 .ensures) (c .before .before .before .before .before .before .before .before .pre .1) (sym (c .before .before .before .before .before .kind-of .ensures) ∙ c .before .before .before .x .given .1)
-
-enum-told-3 : tie.Need-enum-told-3
-enum-told-3 c = search needs
 
 returns : tie.Need-returns
 returns c = set-none _ _ _ (sym (c .before .before .kind-of .ensures) ∙ c .enum-told .given .1) refl
@@ -60,18 +30,18 @@ pub filler-set-spec : {M : Type 1} → statement M
 filler-set-spec =
     tie.close
     (tie.spec
-    kind-of-requires
-    enum-told
-    enum-known-k
-    wide-requires
-    cast-result
+    (λ c κs. search needs)
+    (λ c. search needs)
+    (λ c. search needs)
+    (λ c κs. search needs)
+    (λ c. search needs)
     shl-result
-    enum-told-2
-    enum-known-x
-    wide-requires-2
-    mul-result
+    (λ c. search needs)
+    (λ c. search needs)
+    (λ c κs. search needs)
+    (λ c. search needs)
     shared-slice-read-result
-    enum-told-3
+    (λ c. search needs)
     returns
     returns-2
     returns-3

@@ -5,27 +5,6 @@ use borrow.Author.Needs.{needs}
 use Rattle.order.proofs.flat_below.Statement.{statement}
 use Rattle.order.proofs.flat_below.Tie as tie
 
-kind-of-requires : tie.Need-kind-of-requires
-kind-of-requires c κs = search needs
-
-enum-told : tie.Need-enum-told
-enum-told c = search needs
-
-enum-known-k : tie.Need-enum-known-k
-enum-known-k c = search needs
-
-is-constant-requires : tie.Need-is-constant-requires
-is-constant-requires c κs = search needs
-
-enum-told-2 : tie.Need-enum-told-2
-enum-told-2 c = search needs
-
-enum-told-3 : tie.Need-enum-told-3
-enum-told-3 c = search needs
-
-enum-told-4 : tie.Need-enum-told-4
-enum-told-4 c = search needs
-
 returns : tie.Need-returns
 returns c = flat-kind _ _ _ (sym (c .before .before .kind-of .ensures) ∙ c .enum-told .given .1)
 
@@ -45,13 +24,13 @@ pub flat-below-spec : {M : Type 1} → statement M
 flat-below-spec =
     tie.close
     (tie.spec
-    kind-of-requires
-    enum-told
-    enum-known-k
-    is-constant-requires
-    enum-told-2
-    enum-told-3
-    enum-told-4
+    (λ c κs. search needs)
+    (λ c. search needs)
+    (λ c. search needs)
+    (λ c κs. search needs)
+    (λ c. search needs)
+    (λ c. search needs)
+    (λ c. search needs)
     returns
     returns-2
     returns-3

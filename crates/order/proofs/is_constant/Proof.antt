@@ -5,24 +5,6 @@ use borrow.Author.Needs.{needs}
 use Rattle.order.proofs.is_constant.Statement.{statement}
 use Rattle.order.proofs.is_constant.Tie as tie
 
-kind-of-requires : tie.Need-kind-of-requires
-kind-of-requires c κs = search needs
-
-enum-told : tie.Need-enum-told
-enum-told c = search needs
-
-enum-known-i : tie.Need-enum-known-i
-enum-known-i c = search needs
-
-enum-told-2 : tie.Need-enum-told-2
-enum-told-2 c = search needs
-
-enum-told-3 : tie.Need-enum-told-3
-enum-told-3 c = search needs
-
-enum-told-4 : tie.Need-enum-told-4
-enum-told-4 c = search needs
-
 returns : tie.Need-returns
 returns c = constant-kind _ _ _ (sym (c .before .before .kind-of .ensures) ∙ c .enum-told .given .1)
 
@@ -42,12 +24,12 @@ pub is-constant-spec : {M : Type 1} → statement M
 is-constant-spec =
     tie.close
     (tie.spec
-    kind-of-requires
-    enum-told
-    enum-known-i
-    enum-told-2
-    enum-told-3
-    enum-told-4
+    (λ c κs. search needs)
+    (λ c. search needs)
+    (λ c. search needs)
+    (λ c. search needs)
+    (λ c. search needs)
+    (λ c. search needs)
     returns
     returns-2
     returns-3

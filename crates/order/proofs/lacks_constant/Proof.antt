@@ -7,12 +7,6 @@ use Rattle.order.proofs.Laws.{low-bits}
 use Rattle.order.proofs.lacks_constant.Statement.{statement}
 use Rattle.order.proofs.lacks_constant.Tie as tie
 
-cast-result : tie.Need-cast-result
-cast-result c = search needs
-
-shl-result : tie.Need-shl-result
-shl-result c = search needs
-
 rem-result : tie.Need-rem-result
 rem-result c = rw (power-fits (c .args .c) (omega arith)) (pow-pos _)
 
@@ -20,4 +14,4 @@ returns : tie.Need-returns
 returns c = rw (power-fits (c .args .c) (omega arith)) (low-bits _ _)
 
 pub lacks-constant-spec : {M : Type 1} → statement M
-lacks-constant-spec = tie.close (tie.spec cast-result shl-result rem-result returns)
+lacks-constant-spec = tie.close (tie.spec (λ c. search needs) (λ c. search needs) rem-result returns)

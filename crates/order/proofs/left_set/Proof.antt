@@ -20,9 +20,6 @@ abbrev μ-loop : tie.MeasureT-loop
 shared-slice-read-wide : tie.Need-shared-slice-read-wide Inv-loop μ-loop
 shared-slice-read-wide c = omega (arith, line-inside _ (c .before .before .before .pre .0 .readable) _ _ (c .before .before .before .pre .1) (c .before .before .before .pre .2))
 
-wide-requires : tie.Need-wide-requires Inv-loop μ-loop
-wide-requires c κs = search needs
-
 loop-holds : tie.Need-loop-holds Inv-loop μ-loop
 loop-holds c = (omega arith, left-start _ _ (c .before .before .before .before .pre .0 .readable) _ _ (c .before .before .before .before .pre .1) (c .before .before .before .before .pre .2) _ (c .wide .ensures))
 
@@ -38,12 +35,6 @@ shared-slice-read-entry-set c = omega (arith, line-inside _ (c .before .before .
 entry-set-requires : tie.Need-entry-set-requires Inv-loop μ-loop
 entry-set-requires c κs = (c .before .before .before .before .before .before .before .pre .0, left-entry _ (c .before .before .before .before .before .before .before .pre .0 .readable) _ _ (c .before .before .before .before .before .before .before .pre .1) (c .before .before .before .before .before .before .before .pre .2) _ (c .before .before .before .wide .ensures) _ (c .before .loop-test .taken))
 
-add-i : tie.Need-add-i Inv-loop μ-loop
-add-i c = omega arith
-
-loop-less : tie.Need-loop-less Inv-loop μ-loop
-loop-less c = omega arith
-
 loop-again : tie.Need-loop-again Inv-loop μ-loop
 loop-again c = (omega arith, left-step _ _ (c .before .before .before .before .before .before .before .before .pre .0 .readable) _ _ (c .before .before .before .before .before .before .before .before .pre .1) (c .before .before .before .before .before .before .before .before .pre .2) _ (c .before .before .before .before .wide .ensures) _ _ _ (c .before .before .loop-test .taken) (c .before .before .before .loop .inv .1) (c .entry-set .ensures))
 
@@ -57,13 +48,13 @@ left-set-spec =
     Inv-loop
     μ-loop
     shared-slice-read-wide
-    wide-requires
+    (λ c κs. search needs)
     loop-holds
     add-entry-set
     add-entry-set-2
     shared-slice-read-entry-set
     entry-set-requires
-    add-i
-    loop-less
+    (λ c. omega arith)
+    (λ c. omega arith)
     loop-again
     returns)

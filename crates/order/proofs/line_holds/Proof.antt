@@ -24,9 +24,6 @@ abbrev μ-loop : tie.MeasureT-loop
 shared-slice-read-wide : tie.Need-shared-slice-read-wide Inv-loop μ-loop
 shared-slice-read-wide c = omega (arith, line-inside _ (c .before .before .before .pre .readable) _ _ (c .before .before .before .pre .line) (c .before .before .before .pre .begins))
 
-wide-requires : tie.Need-wide-requires Inv-loop μ-loop
-wide-requires c κs = search needs
-
 left-set-requires : tie.Need-left-set-requires Inv-loop μ-loop
 left-set-requires c κs = (given _ _ _ _ (c .before .before .before .before .pre .readable) (c .before .before .before .before .pre .sets) (c .before .before .before .before .pre .constants) (c .before .before .before .before .pre .restrictions), c .before .before .before .before .pre .line, c .before .before .before .before .pre .begins)
 
@@ -72,9 +69,6 @@ returns-3 c = sym (line-atoms _ _ _ _ (given _ _ _ _ (c .before .before .before 
 add-j : tie.Need-add-j Inv-loop μ-loop
 add-j c = omega (arith, few-atoms _ _ _ (c .before .before .before .before .before .before .before .before .before .before .before .before .before .pre .readable) (c .before .before .before .before .before .before .before .before .before .before .before .before .before .pre .constants) (c .before .before .before .before .before .before .before .before .before .before .before .before .before .pre .restrictions))
 
-loop-less : tie.Need-loop-less Inv-loop μ-loop
-loop-less c = omega arith
-
 loop-again : tie.Need-loop-again Inv-loop μ-loop
 loop-again c = (
   omega arith,
@@ -93,7 +87,7 @@ line-holds-spec =
     Inv-loop
     μ-loop
     shared-slice-read-wide
-    wide-requires
+    (λ c κs. search needs)
     left-set-requires
     add-entry-set
     add-entry-set-2
@@ -109,6 +103,6 @@ line-holds-spec =
     set-below-requires
     returns-3
     add-j
-    loop-less
+    (λ c. omega arith)
     loop-again
     returns-4)

@@ -19,30 +19,6 @@ abbrev μ-loop : tie.MeasureT-loop
 loop-holds : tie.Need-loop-holds Inv-loop μ-loop
 loop-holds c = (omega arith, refl, sym (written-none (c .before .args .t2) _))
 
-mul-at : tie.Need-mul-at Inv-loop μ-loop
-mul-at c = search needs
-
-mul-x : tie.Need-mul-x Inv-loop μ-loop
-mul-x c = search needs
-
-array-read-x : tie.Need-array-read-x Inv-loop μ-loop
-array-read-x c = search needs
-
-sub-put-set : tie.Need-sub-put-set Inv-loop μ-loop
-sub-put-set c = search needs
-
-part-put-set-start : tie.Need-part-put-set-start Inv-loop μ-loop
-part-put-set-start c = search needs
-
-part-put-set-end : tie.Need-part-put-set-end Inv-loop μ-loop
-part-put-set-end c = search needs
-
-add-i : tie.Need-add-i Inv-loop μ-loop
-add-i c = search needs
-
-loop-less : tie.Need-loop-less Inv-loop μ-loop
-loop-less c = search needs
-
 loop-again : tie.Need-loop-again Inv-loop μ-loop
 loop-again c =
     (let l = c .before .before .before .before .before .loop in
@@ -71,15 +47,15 @@ put-all-spec =
     Inv-loop
     μ-loop
     loop-holds
-    mul-at
-    mul-x
-    array-read-x
-    sub-put-set
-    part-put-set-start
-    part-put-set-end
+    (λ c. search needs)
+    (λ c. search needs)
+    (λ c. search needs)
+    (λ c. search needs)
+    (λ c. search needs)
+    (λ c. search needs)
     put-set-requires
-    add-i
-    loop-less
+    (λ c. search needs)
+    (λ c. search needs)
     loop-again
     same-length
     returns)

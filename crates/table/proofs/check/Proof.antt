@@ -5,23 +5,8 @@ use Rattle.table.proofs.Laws.{header-in, check-header, check-body, chec
 use Rattle.table.proofs.check.Statement.{statement}
 use Rattle.table.proofs.check.Tie as tie
 
-read-header-requires : tie.Need-read-header-requires
-read-header-requires c κs = search needs
-
-enum-told : tie.Need-enum-told
-enum-told c = search needs
-
 read-body-requires : tie.Need-read-body-requires
 read-body-requires c κs = header-in _ _ (sym (c .before .before .read-header .ensures) ∙ c .enum-told .given .1)
-
-enum-told-2 : tie.Need-enum-told-2
-enum-told-2 c = search needs
-
-enum-known-number : tie.Need-enum-known-number
-enum-known-number c = search needs
-
-enum-known-number-2 : tie.Need-enum-known-number-2
-enum-known-number-2 c = search needs
 
 returns : tie.Need-returns
 returns c = check-all _ _ _ (sym (c .before .before .before .before .before .read-header .ensures) ∙ c .before .before .before .enum-told .given .1) (sym (c .before .before .read-body .ensures) ∙ c .enum-told2 .given .1)
@@ -36,12 +21,12 @@ pub check-spec : {M : Type 1} → statement M
 check-spec =
     tie.close
     (tie.spec
-    read-header-requires
-    enum-told
+    (λ c κs. search needs)
+    (λ c. search needs)
     read-body-requires
-    enum-told-2
-    enum-known-number
-    enum-known-number-2
+    (λ c. search needs)
+    (λ c. search needs)
+    (λ c. search needs)
     returns
     returns-2
     returns-3)

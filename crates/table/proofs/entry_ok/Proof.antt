@@ -5,24 +5,6 @@ use Rattle.table.proofs.Laws.{entry-top, entry-constant, entry-restrict
 use Rattle.table.proofs.entry_ok.Statement.{statement}
 use Rattle.table.proofs.entry_ok.Tie as tie
 
-kind-of-requires : tie.Need-kind-of-requires
-kind-of-requires c κs = search needs
-
-enum-told : tie.Need-enum-told
-enum-told c = search needs
-
-enum-known-k : tie.Need-enum-known-k
-enum-known-k c = search needs
-
-enum-known-k-2 : tie.Need-enum-known-k-2
-enum-known-k-2 c = search needs
-
-enum-known-k-3 : tie.Need-enum-known-k-3
-enum-known-k-3 c = search needs
-
-enum-told-2 : tie.Need-enum-told-2
-enum-told-2 c = search needs
-
 returns : tie.Need-returns
 returns c = entry-top _ _ _ _ (sym (c .before .before .kind-of .ensures) ∙ c .enum-told .given .1)
 
@@ -42,12 +24,12 @@ pub entry-ok-spec : {M : Type 1} → statement M
 entry-ok-spec =
     tie.close
     (tie.spec
-    kind-of-requires
-    enum-told
-    enum-known-k
-    enum-known-k-2
-    enum-known-k-3
-    enum-told-2
+    (λ c κs. search needs)
+    (λ c. search needs)
+    (λ c. search needs)
+    (λ c. search needs)
+    (λ c. search needs)
+    (λ c. search needs)
     returns
     returns-2
     returns-3

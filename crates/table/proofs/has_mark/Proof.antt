@@ -5,15 +5,6 @@ use Rattle.table.proofs.Laws.{mark-0, mark-1, mark-2}
 use Rattle.table.proofs.has_mark.Statement.{statement}
 use Rattle.table.proofs.has_mark.Tie as tie
 
-shared-slice-read-if1 : tie.Need-shared-slice-read-if1
-shared-slice-read-if1 c = search needs
-
-shared-slice-read-if2 : tie.Need-shared-slice-read-if2
-shared-slice-read-if2 c = search needs
-
-shared-slice-read-result : tie.Need-shared-slice-read-result
-shared-slice-read-result c = search needs
-
 returns : tie.Need-returns
 returns c = mark-2 _ (omega arith) (omega arith)
 
@@ -27,9 +18,9 @@ pub has-mark-spec : {M : Type 1} → statement M
 has-mark-spec =
     tie.close
     (tie.spec
-    shared-slice-read-if1
-    shared-slice-read-if2
-    shared-slice-read-result
+    (λ c. search needs)
+    (λ c. search needs)
+    (λ c. search needs)
     returns
     returns-2
     returns-3)

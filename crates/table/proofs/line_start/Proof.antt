@@ -18,9 +18,6 @@ abbrev μ-loop : tie.MeasureT-loop
 shared-slice-read-wide : tie.Need-shared-slice-read-wide Inv-loop μ-loop
 shared-slice-read-wide c = omega (arith, layout _ (c .before .before .pre .0) .header-in)
 
-wide-requires : tie.Need-wide-requires Inv-loop μ-loop
-wide-requires c κs = search needs
-
 mul-at : tie.Need-mul-at Inv-loop μ-loop
 mul-at c = omega (arith, c .before .shared-slice-known2 .given 8)
 
@@ -33,20 +30,11 @@ loop-holds c = (omega arith, start-first _ _ (c .wide .ensures))
 shared-slice-read-wide-2 : tie.Need-shared-slice-read-wide-2 Inv-loop μ-loop
 shared-slice-read-wide-2 c = omega (arith, line-inside _ (c .before .before .before .before .before .before .pre .0) _ _ (omega arith) (c .before .before .loop .inv .1))
 
-wide-requires-2 : tie.Need-wide-requires-2 Inv-loop μ-loop
-wide-requires-2 c κs = search needs
-
 add-at-2 : tie.Need-add-at-2 Inv-loop μ-loop
 add-at-2 c = omega (arith, line-inside _ (c .before .before .before .before .before .before .before .pre .0) _ _ (omega arith) (c .before .before .before .loop .inv .1))
 
 add-at-3 : tie.Need-add-at-3 Inv-loop μ-loop
 add-at-3 c = omega (arith, line-inside _ (c .before .before .before .before .before .before .before .pre .0) _ _ (omega arith) (c .before .before .before .loop .inv .1))
-
-add-i : tie.Need-add-i Inv-loop μ-loop
-add-i c = omega arith
-
-loop-less : tie.Need-loop-less Inv-loop μ-loop
-loop-less c = omega arith
 
 loop-again : tie.Need-loop-again Inv-loop μ-loop
 loop-again c = (omega arith, start-next _ _ _ _ (c .before .before .before .loop .inv .1) (c .wide2 .ensures))
@@ -61,15 +49,15 @@ line-start-spec =
     Inv-loop
     μ-loop
     shared-slice-read-wide
-    wide-requires
+    (λ c κs. search needs)
     mul-at
     add-at
     loop-holds
     shared-slice-read-wide-2
-    wide-requires-2
+    (λ c κs. search needs)
     add-at-2
     add-at-3
-    add-i
-    loop-less
+    (λ c. omega arith)
+    (λ c. omega arith)
     loop-again
     returns)

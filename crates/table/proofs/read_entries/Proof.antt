@@ -18,23 +18,8 @@ abbrev μ-loop : tie.MeasureT-loop
 loop-holds : tie.Need-loop-holds Inv-loop μ-loop
 loop-holds c = (omega arith, turn-start _ _ _)
 
-read-entry-requires : tie.Need-read-entry-requires Inv-loop μ-loop
-read-entry-requires c κs = omega arith
-
-enum-known-next : tie.Need-enum-known-next Inv-loop μ-loop
-enum-known-next c = c .match .keys1
-
-enum-known-number : tie.Need-enum-known-number Inv-loop μ-loop
-enum-known-number c = c .match .keys2
-
 returns : tie.Need-returns Inv-loop μ-loop
 returns c = sym (c .before .before .before .before .before .loop .inv .1 ∙ turn-stop _ _ _ _ _ _ (omega arith) (sym (c .before .before .before .read-entry .ensures) ∙ c .before .number .given .1))
-
-add-i : tie.Need-add-i Inv-loop μ-loop
-add-i c = omega arith
-
-loop-less : tie.Need-loop-less Inv-loop μ-loop
-loop-less c = omega arith
 
 loop-again : tie.Need-loop-again Inv-loop μ-loop
 loop-again c = (omega arith, c .before .before .before .before .before .loop .inv .1 ∙ turn-next _ _ _ _ _ (omega arith) (sym (c .before .before .before .read-entry .ensures) ∙ c .before .next .given .1))
@@ -49,11 +34,11 @@ read-entries-spec =
     Inv-loop
     μ-loop
     loop-holds
-    read-entry-requires
-    enum-known-next
-    enum-known-number
+    (λ c κs. omega arith)
+    (λ c. c .match .keys1)
+    (λ c. c .match .keys2)
     returns
-    add-i
-    loop-less
+    (λ c. omega arith)
+    (λ c. omega arith)
     loop-again
     returns-2)

@@ -10,50 +10,23 @@ use Rattle.table.proofs.read_header.Tie as tie
 returns : tie.Need-returns
 returns c = header-short _ (c .if1 .taken)
 
-has-mark-requires : tie.Need-has-mark-requires
-has-mark-requires c κs = search needs
-
-is-version-one-requires : tie.Need-is-version-one-requires
-is-version-one-requires c κs = search needs
-
 returns-2 : tie.Need-returns-2
 returns-2 c = header-mark _ (omega arith) (sym (c .before .before .has-mark .ensures) ∙ not-true _ (c .if2 .taken))
 
 returns-3 : tie.Need-returns-3
 returns-3 c = header-version _ (omega arith) (sym (c .before .before .before .has-mark .ensures) ∙ not-false _ (c .before .if2 .left)) (sym (c .before .before .is-version-one .ensures) ∙ not-true _ (c .if3 .taken))
 
-shared-slice-read-if4 : tie.Need-shared-slice-read-if4
-shared-slice-read-if4 c = search needs
-
 returns-4 : tie.Need-returns-4
 returns-4 c = header-roles _ (omega arith) (sym (c .before .before .before .before .before .has-mark .ensures) ∙ not-false _ (c .before .before .before .if2 .left)) (sym (c .before .before .before .before .is-version-one .ensures) ∙ not-false _ (c .before .before .if3 .left)) (omega arith)
 
-shared-slice-read-if5 : tie.Need-shared-slice-read-if5
-shared-slice-read-if5 c = search needs
-
 returns-5 : tie.Need-returns-5
 returns-5 c = header-variables _ (omega arith) (sym (c .before .before .before .before .before .before .before .has-mark .ensures) ∙ not-false _ (c .before .before .before .before .before .if2 .left)) (sym (c .before .before .before .before .before .before .is-version-one .ensures) ∙ not-false _ (c .before .before .before .before .if3 .left)) (omega arith) (omega arith)
-
-shared-slice-read-wide : tie.Need-shared-slice-read-wide
-shared-slice-read-wide c = search needs
-
-wide-requires : tie.Need-wide-requires
-wide-requires c κs = search needs
-
-shared-slice-read-wide-2 : tie.Need-shared-slice-read-wide-2
-shared-slice-read-wide-2 c = search needs
-
-wide-requires-2 : tie.Need-wide-requires-2
-wide-requires-2 c κs = search needs
 
 add-if6 : tie.Need-add-if6
 add-if6 c = omega (arith, c .before .before .before .shared-slice-known4 .given 5, c .before .shared-slice-known5 .given 8)
 
 returns-6 : tie.Need-returns-6
 returns-6 c = header-atoms _ (omega arith) (sym (c .before .before .before .before .before .before .before .before .before .before .before .before .has-mark .ensures) ∙ not-false _ (c .before .before .before .before .before .before .before .before .before .before .if2 .left)) (sym (c .before .before .before .before .before .before .before .before .before .before .before .is-version-one .ensures) ∙ not-false _ (c .before .before .before .before .before .before .before .before .before .if3 .left)) (omega arith) (omega arith) (omega arith)
-
-shared-slice-read-if7 : tie.Need-shared-slice-read-if7
-shared-slice-read-if7 c = search needs
 
 returns-7 : tie.Need-returns-7
 returns-7 c = header-lines _ (omega arith) (sym (c .before .before .before .before .before .before .before .before .before .before .before .before .before .before .has-mark .ensures) ∙ not-false _ (c .before .before .before .before .before .before .before .before .before .before .before .before .if2 .left)) (sym (c .before .before .before .before .before .before .before .before .before .before .before .before .before .is-version-one .ensures) ∙ not-false _ (c .before .before .before .before .before .before .before .before .before .before .before .if3 .left)) (omega arith) (omega arith) (omega arith) (omega arith)
@@ -66,20 +39,20 @@ read-header-spec =
     tie.close
     (tie.spec
     returns
-    has-mark-requires
-    is-version-one-requires
+    (λ c κs. search needs)
+    (λ c κs. search needs)
     returns-2
     returns-3
-    shared-slice-read-if4
+    (λ c. search needs)
     returns-4
-    shared-slice-read-if5
+    (λ c. search needs)
     returns-5
-    shared-slice-read-wide
-    wide-requires
-    shared-slice-read-wide-2
-    wide-requires-2
+    (λ c. search needs)
+    (λ c κs. search needs)
+    (λ c. search needs)
+    (λ c κs. search needs)
     add-if6
     returns-6
-    shared-slice-read-if7
+    (λ c. search needs)
     returns-7
     returns-8)

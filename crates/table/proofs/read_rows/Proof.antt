@@ -18,23 +18,8 @@ abbrev μ-loop : tie.MeasureT-loop
 loop-holds : tie.Need-loop-holds Inv-loop μ-loop
 loop-holds c = (omega arith, turn-start _ _ _)
 
-read-row-requires : tie.Need-read-row-requires Inv-loop μ-loop
-read-row-requires c κs = omega arith
-
-enum-known-next : tie.Need-enum-known-next Inv-loop μ-loop
-enum-known-next c = c .match .keys1
-
-enum-known-number : tie.Need-enum-known-number Inv-loop μ-loop
-enum-known-number c = c .match .keys2
-
 returns : tie.Need-returns Inv-loop μ-loop
 returns c = sym (c .before .before .before .before .before .loop .inv .1 ∙ turn-stop _ _ _ _ _ _ (omega arith) (sym (c .before .before .before .read-row .ensures) ∙ c .before .number .given .1))
-
-add-k : tie.Need-add-k Inv-loop μ-loop
-add-k c = omega arith
-
-loop-less : tie.Need-loop-less Inv-loop μ-loop
-loop-less c = omega arith
 
 loop-again : tie.Need-loop-again Inv-loop μ-loop
 loop-again c = (omega arith, c .before .before .before .before .before .loop .inv .1 ∙ turn-next _ _ _ _ _ (omega arith) (sym (c .before .before .before .read-row .ensures) ∙ c .before .next .given .1))
@@ -49,11 +34,11 @@ read-rows-spec =
     Inv-loop
     μ-loop
     loop-holds
-    read-row-requires
-    enum-known-next
-    enum-known-number
+    (λ c κs. omega arith)
+    (λ c. c .match .keys1)
+    (λ c. c .match .keys2)
     returns
-    add-k
-    loop-less
+    (λ c. omega arith)
+    (λ c. omega arith)
     loop-again
     returns-2)

@@ -4,9 +4,6 @@ use native.Mathlib.Omega.{arith}
 use Rattle.text.proofs.byte_at.Statement.{statement}
 use Rattle.text.proofs.byte_at.Tie as tie
 
-shared-slice-read-result : tie.Need-shared-slice-read-result
-shared-slice-read-result c = search needs
-
 cast-result : tie.Need-cast-result
 cast-result c = omega (arith, c .shared-slice-known .given (c .before .args .at))
 
@@ -14,4 +11,4 @@ returns : tie.Need-returns
 returns c = omega (arith, c .shared-slice-known .given (c .before .args .at))
 
 pub byte-at-spec : {M : Type 1} → statement M
-byte-at-spec = tie.close (tie.spec shared-slice-read-result cast-result returns)
+byte-at-spec = tie.close (tie.spec (λ c. search needs) cast-result returns)

@@ -4,24 +4,12 @@ use borrow.Author.Tests.{lt-ltb, le-ltb}
 use Rattle.text.proofs.digit_of.Statement.{statement}
 use Rattle.text.proofs.digit_of.Tie as tie
 
-cast-result : tie.Need-cast-result
-cast-result c = search needs
-
-add-result : tie.Need-add-result
-add-result c = search needs
-
 returns : tie.Need-returns
 returns c = simp (lt-ltb _ _ (c .if1 .taken))
-
-cast-result-2 : tie.Need-cast-result-2
-cast-result-2 c = search needs
-
-add-result-2 : tie.Need-add-result-2
-add-result-2 c = search needs
 
 returns-2 : tie.Need-returns-2
 returns-2 c = simp (le-ltb _ _ (c .if1 .left))
 
 pub digit-of-spec : {M : Type 1} → statement M
 digit-of-spec =
-    tie.close (tie.spec cast-result add-result returns cast-result-2 add-result-2 returns-2)
+    tie.close (tie.spec (λ c. search needs) (λ c. search needs) returns (λ c. search needs) (λ c. search needs) returns-2)

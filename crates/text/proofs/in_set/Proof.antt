@@ -4,15 +4,9 @@ use Rattle.el.specs.Test.{bit}
 use Rattle.text.proofs.in_set.Statement.{statement}
 use Rattle.text.proofs.in_set.Tie as tie
 
-cast-result : tie.Need-cast-result
-cast-result c = search needs
-
-shr-result : tie.Need-shr-result
-shr-result c = search needs
-
 returns : tie.Need-returns
 unfolding bit
 returns c = search needs
 
 pub in-set-spec : {M : Type 1} → statement M
-in-set-spec = tie.close (tie.spec cast-result shr-result returns)
+in-set-spec = tie.close (tie.spec (λ c. search needs) (λ c. search needs) returns)

@@ -13,18 +13,6 @@ in-set-requires c κs = omega (arith, few-atoms _ (c .before .before .pre .0))
 returns : tie.Need-returns
 returns c = atom-out _ _ _ _ (sym (c .before .in-set .ensures) ∙ not-true _ (c .if1 .taken))
 
-slice-aggregate-put-between : tie.Need-slice-aggregate-put-between
-slice-aggregate-put-between c = search needs
-
-put-between-requires : tie.Need-put-between-requires
-put-between-requires c κs = search needs
-
-put-atom-requires : tie.Need-put-atom-requires
-put-atom-requires c κs = search needs
-
-same-length : tie.Need-same-length
-same-length c = search needs
-
 returns-2 : tie.Need-returns-2
 returns-2 c = atom-there _ _ _ _ (sym (c .before .before .before .before .before .before .before .before .before .before .in-set .ensures) ∙ not-false _ (c .before .before .before .before .before .before .before .before .before .if1 .left)) (c .before .before .before .before .before .before .put-between .ensures) (c .before .before .put-atom .ensures)
 
@@ -34,8 +22,8 @@ put-atom-of-spec =
     (tie.spec
     in-set-requires
     returns
-    slice-aggregate-put-between
-    put-between-requires
-    put-atom-requires
-    same-length
+    (λ c. search needs)
+    (λ c κs. search needs)
+    (λ c κs. search needs)
+    (λ c. search needs)
     returns-2)

@@ -5,9 +5,6 @@ use Rattle.text.proofs.Laws.{between-later, between-first}
 use Rattle.text.proofs.put_between.Statement.{statement}
 use Rattle.text.proofs.put_between.Tie as tie
 
-put-text-requires : tie.Need-put-text-requires
-put-text-requires c κs = search needs
-
 same-length : tie.Need-same-length
 same-length c = appended-length (c .before .before .put-text .ensures)
 
@@ -18,4 +15,4 @@ returns-2 : tie.Need-returns-2
 returns-2 c = between-first _ _ (c .if1 .left)
 
 pub put-between-spec : {M : Type 1} → statement M
-put-between-spec = tie.close (tie.spec put-text-requires same-length returns returns-2)
+put-between-spec = tie.close (tie.spec (λ c κs. search needs) same-length returns returns-2)

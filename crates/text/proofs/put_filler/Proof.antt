@@ -9,51 +9,9 @@ use Rattle.text.specs.Listing.{codeText}
 use Rattle.text.proofs.put_filler.Statement.{statement}
 use Rattle.text.proofs.put_filler.Tie as tie
 
-kind-of-requires : tie.Need-kind-of-requires
-kind-of-requires c κs = search needs
-
-enum-told : tie.Need-enum-told
-enum-told c = search needs
-
-slice-aggregate-put-text : tie.Need-slice-aggregate-put-text
-slice-aggregate-put-text c = search needs
-
-put-text-requires : tie.Need-put-text-requires
-put-text-requires c κs = search needs
-
-enum-known-k : tie.Need-enum-known-k
-enum-known-k c = search needs
-
-wide-requires : tie.Need-wide-requires
-wide-requires c κs = search needs
-
-put-named-requires : tie.Need-put-named-requires
-put-named-requires c κs = search needs
-
-enum-told-2 : tie.Need-enum-told-2
-enum-told-2 c = search needs
-
-enum-known-k-2 : tie.Need-enum-known-k-2
-enum-known-k-2 c = search needs
-
-wide-requires-2 : tie.Need-wide-requires-2
-wide-requires-2 c κs = search needs
-
-put-named-requires-2 : tie.Need-put-named-requires-2
-put-named-requires-2 c κs = search needs
-
-enum-told-3 : tie.Need-enum-told-3
-enum-told-3 c = search needs
-
-same-length : tie.Need-same-length
-same-length c = search needs
-
 returns : tie.Need-returns
 unfolding codeText
 returns c = appended-as (c .before .before .put-text .ensures) (sym (ap codeText (sym (c .before .before .before .before .before .before .before .kind-of .ensures) ∙ c .before .before .before .before .before .enum-told .given .1)))
-
-same-length-2 : tie.Need-same-length-2
-same-length-2 c = search needs
 
 returns-2 : tie.Need-returns-2
 unfolding codeText
@@ -62,9 +20,6 @@ returns-2 c = appended-as (c .before .before .put-named .ensures) (ap (λ (n : �
 returns-3 : tie.Need-returns-3
 unfolding codeText
 returns-3 c = appended-as (appended-none _ _) (sym (ap codeText (sym (c .before .before .kind-of .ensures) ∙ c .enum-told2 .given .1)))
-
-same-length-3 : tie.Need-same-length-3
-same-length-3 c = search needs
 
 returns-4 : tie.Need-returns-4
 unfolding codeText
@@ -78,23 +33,23 @@ pub put-filler-spec : {M : Type 1} → statement M
 put-filler-spec =
     tie.close
     (tie.spec
-    kind-of-requires
-    enum-told
-    slice-aggregate-put-text
-    put-text-requires
-    enum-known-k
-    wide-requires
-    put-named-requires
-    enum-told-2
-    enum-known-k-2
-    wide-requires-2
-    put-named-requires-2
-    enum-told-3
-    same-length
+    (λ c κs. search needs)
+    (λ c. search needs)
+    (λ c. search needs)
+    (λ c κs. search needs)
+    (λ c. search needs)
+    (λ c κs. search needs)
+    (λ c κs. search needs)
+    (λ c. search needs)
+    (λ c. search needs)
+    (λ c κs. search needs)
+    (λ c κs. search needs)
+    (λ c. search needs)
+    (λ c. search needs)
     returns
-    same-length-2
+    (λ c. search needs)
     returns-2
     returns-3
-    same-length-3
+    (λ c. search needs)
     returns-4
     returns-5)

@@ -5,20 +5,8 @@ use Rattle.text.proofs.Laws.{hex-none, hex-some}
 use Rattle.text.proofs.put_hex.Statement.{statement}
 use Rattle.text.proofs.put_hex.Tie as tie
 
-put-byte-requires : tie.Need-put-byte-requires
-put-byte-requires c κs = search needs
-
-same-length : tie.Need-same-length
-same-length c = search needs
-
 returns : tie.Need-returns
 returns c = hex-none _ (omega arith) (c .before .before .put-byte .ensures)
-
-put-bytes-requires : tie.Need-put-bytes-requires
-put-bytes-requires c κs = search needs
-
-same-length-2 : tie.Need-same-length-2
-same-length-2 c = search needs
 
 returns-2 : tie.Need-returns-2
 returns-2 c = hex-some _ (c .before .before .before .before .if1 .left) (c .before .before .put-bytes .ensures)
@@ -26,4 +14,4 @@ returns-2 c = hex-some _ (c .before .before .before .before .if1 .left) (c .befo
 pub put-hex-spec : {M : Type 1} → statement M
 put-hex-spec =
     tie.close
-    (tie.spec put-byte-requires same-length returns put-bytes-requires same-length-2 returns-2)
+    (tie.spec (λ c κs. search needs) (λ c. search needs) returns (λ c κs. search needs) (λ c. search needs) returns-2)

@@ -16,23 +16,11 @@ add-place c = omega (arith, row-in _ (c .before .before .pre .0) _ (c .before .b
 byte-at-requires : tie.Need-byte-at-requires
 byte-at-requires c κs = omega (arith, row-in _ (c .before .before .pre .0) _ (c .before .before .pre .1))
 
-put-named-requires : tie.Need-put-named-requires
-put-named-requires c κs = search needs
-
-put-byte-requires : tie.Need-put-byte-requires
-put-byte-requires c κs = search needs
-
 add-put-filler : tie.Need-add-put-filler
 add-put-filler c = omega (arith, row-in _ (c .before .before .before .before .before .before .before .before .before .before .before .pre .0) _ (c .before .before .before .before .before .before .before .before .before .before .before .pre .1))
 
 shared-slice-read-put-filler : tie.Need-shared-slice-read-put-filler
 shared-slice-read-put-filler c = omega (arith, row-in _ (c .before .before .before .before .before .before .before .before .before .before .before .before .pre .0) _ (c .before .before .before .before .before .before .before .before .before .before .before .before .pre .1))
-
-put-filler-requires : tie.Need-put-filler-requires
-put-filler-requires c κs = search needs
-
-same-length : tie.Need-same-length
-same-length c = search needs
 
 returns : tie.Need-returns
 returns c = appended-as (appended-then (c .before .before .before .before .before .before .before .before .before .before .before .put-named .ensures) (appended-then (c .before .before .before .before .before .before .before .put-byte .ensures) (c .before .before .put-filler .ensures))) (row-text _ (c .before .before .before .before .before .before .before .before .before .before .before .before .before .before .before .before .pre .0) _ _ _ (c .before .before .before .before .before .before .before .before .before .before .before .before .before .before .before .before .pre .1) (c .before .before .before .before .before .before .before .before .before .before .before .before .before .byte-at .ensures .0) refl)
@@ -44,10 +32,10 @@ put-row-spec =
     mul-place
     add-place
     byte-at-requires
-    put-named-requires
-    put-byte-requires
+    (λ c κs. search needs)
+    (λ c κs. search needs)
     add-put-filler
     shared-slice-read-put-filler
-    put-filler-requires
-    same-length
+    (λ c κs. search needs)
+    (λ c. search needs)
     returns)

@@ -21,9 +21,6 @@ byte-at-requires c κs = omega (arith, header-in _ (c .before .before .pre))
 byte-at-requires-2 : tie.Need-byte-at-requires-2 Inv-loop μ-loop
 byte-at-requires-2 c κs = omega (arith, header-in _ (c .before .before .before .pre))
 
-add-atoms : tie.Need-add-atoms Inv-loop μ-loop
-add-atoms c = omega arith
-
 loop-holds : tie.Need-loop-holds Inv-loop μ-loop
 loop-holds c = (omega arith, below-none _ _ _ _)
 
@@ -33,15 +30,6 @@ put-atom-of-requires c κs = (c .before .before .before .before .before .before 
 in-set-requires : tie.Need-in-set-requires Inv-loop μ-loop
 in-set-requires c κs = omega (arith, few-atoms _ (c .before .before .before .before .before .before .before .before .before .before .pre), c .before .before .before .before .before .before .before .byte-at .ensures .0, c .before .before .before .before .before .before .byte-at2 .ensures .0)
 
-either-requires : tie.Need-either-requires Inv-loop μ-loop
-either-requires c κs = search needs
-
-add-i : tie.Need-add-i Inv-loop μ-loop
-add-i c = search needs
-
-loop-less : tie.Need-loop-less Inv-loop μ-loop
-loop-less c = search needs
-
 loop-again : tie.Need-loop-again Inv-loop μ-loop
 loop-again c = (omega arith, below-turn _ _ (c .before .before .before .before .before .before .before .loop .inv .1) (c .before .before .before .before .put-atom-of .ensures) (c .before .in-set .ensures) (c .either .ensures))
 
@@ -50,12 +38,6 @@ same-length c = appended-length (c .before .before .loop .inv .1 .written)
 
 returns : tie.Need-returns Inv-loop μ-loop
 returns c = set-some _ _ (atoms-left _ (c .before .before .before .before .before .before .before .pre) _ _ _ (c .before .before .before .before .byte-at .ensures .0) (c .before .before .before .byte-at2 .ensures .0) (c .before .before .loop .inv .0) (c .before .loop-test .left)) (c .if1 .taken) (c .before .before .loop .inv .1)
-
-slice-aggregate-put-text : tie.Need-slice-aggregate-put-text Inv-loop μ-loop
-slice-aggregate-put-text c = search needs
-
-put-text-requires : tie.Need-put-text-requires Inv-loop μ-loop
-put-text-requires c κs = search needs
 
 same-length-2 : tie.Need-same-length-2 Inv-loop μ-loop
 same-length-2 c = appended-length (c .before .before .put-text .ensures) ∙ appended-length (c .before .before .before .before .before .before .before .loop .inv .1 .written)
@@ -71,17 +53,17 @@ put-set-spec =
     μ-loop
     byte-at-requires
     byte-at-requires-2
-    add-atoms
+    (λ c. omega arith)
     loop-holds
     put-atom-of-requires
     in-set-requires
-    either-requires
-    add-i
-    loop-less
+    (λ c κs. search needs)
+    (λ c. search needs)
+    (λ c. search needs)
     loop-again
     same-length
     returns
-    slice-aggregate-put-text
-    put-text-requires
+    (λ c. search needs)
+    (λ c κs. search needs)
     same-length-2
     returns-2)

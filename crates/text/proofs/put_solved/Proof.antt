@@ -7,32 +7,17 @@ use Rattle.text.proofs.ListingLaws.{header-in, variables-are, solved-re
 use Rattle.text.proofs.put_solved.Statement.{statement}
 use Rattle.text.proofs.put_solved.Tie as tie
 
-check-requires : tie.Need-check-requires
-check-requires c κs = search needs
-
-enum-told : tie.Need-enum-told
-enum-told c = search needs
-
 returns : tie.Need-returns
 returns c = solved-refused _ _ _ _ (sym (c .before .before .check .ensures) ∙ c .enum-told .given .1)
 
-enum-told-2 : tie.Need-enum-told-2
-enum-told-2 c = search needs
-
 byte-at-requires : tie.Need-byte-at-requires
 byte-at-requires c κs = omega (arith, header-in _ (readable-is _ (sym (c .before .before .check .ensures) ∙ c .enum-told2 .given .1)))
-
-mul-if1 : tie.Need-mul-if1
-mul-if1 c = search needs
 
 returns-2 : tie.Need-returns-2
 returns-2 c = solved-short _ _ _ _ _ (variables-are _ (readable-is _ (sym (c .before .before .before .before .check .ensures) ∙ c .before .before .enum-told2 .given .1)) ∙ sym (c .before .byte-at .ensures .0)) (c .if1 .taken)
 
 put-variables-requires : tie.Need-put-variables-requires
 put-variables-requires c κs = (readable-is _ (sym (c .before .before .before .before .before .check .ensures) ∙ c .before .before .before .enum-told2 .given .1), omega arith)
-
-same-length : tie.Need-same-length
-same-length c = search needs
 
 returns-3 : tie.Need-returns-3
 returns-3 c = solved-all _ _ _ (variables-are _ (readable-is _ (sym (c .before .before .before .before .before .before .before .before .check .ensures) ∙ c .before .before .before .before .before .before .enum-told2 .given .1)) ∙ sym (c .before .before .before .before .before .byte-at .ensures .0)) (c .before .before .before .before .if1 .left) (c .before .before .put-variables .ensures)
@@ -41,13 +26,13 @@ pub put-solved-spec : {M : Type 1} → statement M
 put-solved-spec =
     tie.close
     (tie.spec
-    check-requires
-    enum-told
+    (λ c κs. search needs)
+    (λ c. search needs)
     returns
-    enum-told-2
+    (λ c. search needs)
     byte-at-requires
-    mul-if1
+    (λ c. search needs)
     returns-2
     put-variables-requires
-    same-length
+    (λ c. search needs)
     returns-3)

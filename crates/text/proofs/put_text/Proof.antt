@@ -19,18 +19,6 @@ abbrev μ-loop : tie.MeasureT-loop
 loop-holds : tie.Need-loop-holds Inv-loop μ-loop
 loop-holds c = (omega arith, appended-none _ _)
 
-shared-slice-read-put-byte : tie.Need-shared-slice-read-put-byte Inv-loop μ-loop
-shared-slice-read-put-byte c = search needs
-
-put-byte-requires : tie.Need-put-byte-requires Inv-loop μ-loop
-put-byte-requires c κs = search needs
-
-add-i : tie.Need-add-i Inv-loop μ-loop
-add-i c = search needs
-
-loop-less : tie.Need-loop-less Inv-loop μ-loop
-loop-less c = search needs
-
 loop-again : tie.Need-loop-again Inv-loop μ-loop
 loop-again c = (omega arith, text-turn (c .before .before .before .before .before .before .before .before .before .args .text .now) (c .before .before .before .before .before .before .loop .i) (omega arith) (c .before .before .before .before .before .before .loop .inv .1) (c .before .before .put-byte .ensures))
 
@@ -47,10 +35,10 @@ put-text-spec =
     Inv-loop
     μ-loop
     loop-holds
-    shared-slice-read-put-byte
-    put-byte-requires
-    add-i
-    loop-less
+    (λ c. search needs)
+    (λ c κs. search needs)
+    (λ c. search needs)
+    (λ c. search needs)
     loop-again
     same-length
     returns)

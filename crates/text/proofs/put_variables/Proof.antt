@@ -23,12 +23,6 @@ loop-holds c = (omega arith, lines-none _ _ _ _)
 put-variable-requires : tie.Need-put-variable-requires Inv-loop μ-loop
 put-variable-requires c κs = (c .before .before .before .before .before .before .pre .0, omega (arith, c .before .before .before .before .before .before .pre .1))
 
-add-x : tie.Need-add-x Inv-loop μ-loop
-add-x c = search needs
-
-loop-less : tie.Need-loop-less Inv-loop μ-loop
-loop-less c = search needs
-
 loop-again : tie.Need-loop-again Inv-loop μ-loop
 loop-again c = (omega arith, lines-turn _ _ _ (c .before .before .before .before .before .loop .inv .1) (c .before .before .put-variable .ensures))
 
@@ -46,8 +40,8 @@ put-variables-spec =
     μ-loop
     loop-holds
     put-variable-requires
-    add-x
-    loop-less
+    (λ c. search needs)
+    (λ c. search needs)
     loop-again
     same-length
     returns)

@@ -6,26 +6,14 @@ use borrow.Author.Needs.{needs}
 use Rattle.walk.proofs.advance.Statement.{statement}
 use Rattle.walk.proofs.advance.Tie as tie
 
-sweep-requires : tie.Need-sweep-requires
-sweep-requires c κs = search needs
-
 moved-requires : tie.Need-moved-requires
 moved-requires c κs = (let p = c .before .before .before .pre in let g = p .0 .1 .child (search needs) in (g .some, let q = given-variables (p .0 .0) in let h = given-chosen (p .0 .0) _ _ (p .1 .0) in omega arith))
-
-enum-told : tie.Need-enum-told
-enum-told c = search needs
 
 look-requires : tie.Need-look-requires
 look-requires c κs = (let p = c .before .before .before .before .before .before .pre in let q = given-variables (p .0 .0) in let h = given-chosen (p .0 .0) _ _ (p .1 .0) in let e = c .before .before .moved .ensures .1 in (q .1, omega arith, p .0 .0 .narrow))
 
-enum-told-2 : tie.Need-enum-told-2
-enum-told-2 c = search needs
-
 look-requires-2 : tie.Need-look-requires-2
 look-requires-2 c κs = (let p = c .before .before .before .before .before .before .pre in let q = given-variables (p .0 .0) in let h = given-chosen (p .0 .0) _ _ (p .1 .0) in let e = c .before .before .moved .ensures .1 in (q .1, omega arith, p .0 .0 .narrow))
-
-enum-told-3 : tie.Need-enum-told-3
-enum-told-3 c = search needs
 
 returns : tie.Need-returns
 returns c =
@@ -46,13 +34,13 @@ pub advance-spec : {M : Type 1} → statement M
 advance-spec =
     tie.close
     (tie.spec
-    sweep-requires
+    (λ c κs. search needs)
     moved-requires
-    enum-told
+    (λ c. search needs)
     look-requires
-    enum-told-2
+    (λ c. search needs)
     look-requires-2
-    enum-told-3
+    (λ c. search needs)
     returns
     returns-2
     returns-3)

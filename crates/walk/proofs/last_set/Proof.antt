@@ -7,12 +7,6 @@ use borrow.Author.Needs.{needs}
 use Rattle.walk.proofs.last_set.Statement.{statement}
 use Rattle.walk.proofs.last_set.Tie as tie
 
-cast-result : tie.Need-cast-result
-cast-result c = search needs
-
-shl-result : tie.Need-shl-result
-shl-result c = search needs
-
 returns : tie.Need-returns
 returns c = rw (power-fits (c .args .n) (omega arith)) (let h : 0 < 2 ^ c .args .n = pow-pos (c .args .n) in omega arith)
 
@@ -20,4 +14,4 @@ sub-result : tie.Need-sub-result
 sub-result c = rw (power-fits (c .args .n) (omega arith)) (pow-pos (c .args .n))
 
 pub last-set-spec : {M : Type 1} → statement M
-last-set-spec = tie.close (tie.spec cast-result shl-result sub-result returns)
+last-set-spec = tie.close (tie.spec (λ c. search needs) (λ c. search needs) sub-result returns)

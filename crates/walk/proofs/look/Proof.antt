@@ -8,9 +8,6 @@ use borrow.Author.Needs.{needs}
 use Rattle.walk.proofs.look.Statement.{statement}
 use Rattle.walk.proofs.look.Tie as tie
 
-next-node-requires : tie.Need-next-node-requires
-next-node-requires c κs = search needs
-
 returns : tie.Need-returns
 unfolding Looked Next deadAt
 returns c =
@@ -21,9 +18,6 @@ returns-2 : tie.Need-returns-2
 unfolding Looked deadAt
 returns-2 c = λ t hv hw s d. (let a = c .before .before .args in let p = c .before .before .pre in let n : length (a .sets .set) ≡ 12 = search needs in looked-solved t (a .sets) (omega arith) (sym d ∙ c .before .if1 .left) (omega arith))
 
-child-requires : tie.Need-child-requires
-child-requires c κs = search needs
-
 returns-3 : tie.Need-returns-3
 unfolding Looked deadAt
 returns-3 c =
@@ -31,4 +25,4 @@ returns-3 c =
     looked-down t (a .sets) (omega arith) _ (omega arith) (omega arith) (omega arith) (sym d ∙ c .before .before .if1 .left) s (c .child .ensures .1) (c .child .ensures .0))
 
 pub look-spec : {M : Type 1} → statement M
-look-spec = tie.close (tie.spec next-node-requires returns returns-2 child-requires returns-3)
+look-spec = tie.close (tie.spec (λ c κs. search needs) returns returns-2 (λ c κs. search needs) returns-3)

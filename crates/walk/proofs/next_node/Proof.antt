@@ -20,42 +20,9 @@ abbrev μ-loop : tie.MeasureT-loop
 loop-holds : tie.Need-loop-holds Inv-loop μ-loop
 loop-holds c = (search needs, omega arith, omega arith, λ t e. goes-start t _ _)
 
-sub-x : tie.Need-sub-x Inv-loop μ-loop
-sub-x c = search needs
-
-mul-x : tie.Need-mul-x Inv-loop μ-loop
-mul-x c = search needs
-
-array-read-x : tie.Need-array-read-x Inv-loop μ-loop
-array-read-x c = search needs
-
-add-set : tie.Need-add-set Inv-loop μ-loop
-add-set c = search needs
-
-sub-set : tie.Need-sub-set Inv-loop μ-loop
-sub-set c = search needs
-
-mul-set : tie.Need-mul-set Inv-loop μ-loop
-mul-set c = search needs
-
-array-write-set : tie.Need-array-write-set Inv-loop μ-loop
-array-write-set c = search needs
-
 returns : tie.Need-returns Inv-loop μ-loop
 unfolding Next rest after
 returns c = λ t e. next-sibling t _ e _ _ (c .before .loop-test .taken) (omega arith) _ _ (c .if1 .taken) (c .before .before .loop .inv .3 t e)
-
-sub-k : tie.Need-sub-k Inv-loop μ-loop
-sub-k c = search needs
-
-mul-set-2 : tie.Need-mul-set-2 Inv-loop μ-loop
-mul-set-2 c = search needs
-
-array-write-set-2 : tie.Need-array-write-set-2 Inv-loop μ-loop
-array-write-set-2 c = search needs
-
-loop-less : tie.Need-loop-less Inv-loop μ-loop
-loop-less c = search needs
 
 loop-again : tie.Need-loop-again Inv-loop μ-loop
 loop-again c = (
@@ -76,17 +43,17 @@ next-node-spec =
     Inv-loop
     μ-loop
     loop-holds
-    sub-x
-    mul-x
-    array-read-x
-    add-set
-    sub-set
-    mul-set
-    array-write-set
+    (λ c. search needs)
+    (λ c. search needs)
+    (λ c. search needs)
+    (λ c. search needs)
+    (λ c. search needs)
+    (λ c. search needs)
+    (λ c. search needs)
     returns
-    sub-k
-    mul-set-2
-    array-write-set-2
-    loop-less
+    (λ c. search needs)
+    (λ c. search needs)
+    (λ c. search needs)
+    (λ c. search needs)
     loop-again
     returns-2)

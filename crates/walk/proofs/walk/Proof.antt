@@ -9,26 +9,14 @@ use Rattle.walk.proofs.walk.Tie as tie
 shared-slice-read-wide : tie.Need-shared-slice-read-wide
 shared-slice-read-wide c = omega (arith, layout _ (c .before .before .pre) .header-in)
 
-wide-requires : tie.Need-wide-requires
-wide-requires c κs = search needs
-
 shared-slice-read-wide-2 : tie.Need-shared-slice-read-wide-2
 shared-slice-read-wide-2 c = omega (arith, layout _ (c .before .before .before .before .pre) .header-in)
-
-wide-requires-2 : tie.Need-wide-requires-2
-wide-requires-2 c κs = search needs
 
 shared-slice-read-wide-3 : tie.Need-shared-slice-read-wide-3
 shared-slice-read-wide-3 c = omega (arith, layout _ (c .before .before .before .before .before .before .pre) .header-in)
 
-wide-requires-3 : tie.Need-wide-requires-3
-wide-requires-3 c κs = search needs
-
 shared-slice-read-wide-4 : tie.Need-shared-slice-read-wide-4
 shared-slice-read-wide-4 c = omega (arith, layout _ (c .before .before .before .before .before .before .before .before .pre) .header-in)
-
-wide-requires-4 : tie.Need-wide-requires-4
-wide-requires-4 c κs = search needs
 
 add-last-set : tie.Need-add-last-set
 add-last-set c = omega (arith, layout _ (c .before .before .before .before .before .before .before .before .before .pre) .few-atoms)
@@ -48,13 +36,13 @@ walk-spec =
     tie.close
     (tie.spec
     shared-slice-read-wide
-    wide-requires
+    (λ c κs. search needs)
     shared-slice-read-wide-2
-    wide-requires-2
+    (λ c κs. search needs)
     shared-slice-read-wide-3
-    wide-requires-3
+    (λ c κs. search needs)
     shared-slice-read-wide-4
-    wide-requires-4
+    (λ c κs. search needs)
     add-last-set
     last-set-requires
     walk-from-root-requires

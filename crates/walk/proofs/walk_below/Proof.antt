@@ -30,33 +30,21 @@ level-of-requires c κs = (let p = c .before .before .before .before .pre in (gi
 loop-holds : tie.Need-loop-holds Inv-loop μ-loop
 loop-holds c = (let p = c .before .before .before .before .before .pre in (p .1 .some, p .1 .sound, p .1 .left, p .1 .kin, c .level-of .ensures))
 
-sub-most : tie.Need-sub-most Inv-loop μ-loop
-sub-most c = omega arith
-
 advance-requires : tie.Need-advance-requires Inv-loop μ-loop
 advance-requires c κs = (let p = c .before .before .before .before .before .before .before .pre in let l = c .before .loop in ((p .0 .0, given-sweep (p .0 .0) _ _ _ (l .level) (l .sets) (p .0 .1) (l .inv .1) (l .inv .3) (l .inv .4)), (l .inv .1, omega arith)))
 
 add-count : tie.Need-add-count Inv-loop μ-loop
 add-count c = (let h = gone-fits _ _ _ _ (c .before .before .before .loop .sets) (c .before .before .loop-test .taken) (c .before .before .before .loop .inv .2) (c .before .advance .result) (c .before .advance .ensures) in search needs)
 
-enum-told : tie.Need-enum-told Inv-loop μ-loop
-enum-told c = c .match .keys1
-
 returns : tie.Need-returns Inv-loop μ-loop
 unfolding outcomeOf
 returns c =
     (let h = gone-found _ _ _ _ (c .before .before .before .before .before .before .loop .sets) (c .before .before .before .before .before .loop-test .taken) (c .before .before .before .before .before .before .loop .inv .2) (c .before .before .before .before .advance .result) (c .before .before .before .before .advance .ensures) (c .enum-told .given .1) in (sym (h .0), h .1))
 
-enum-told-2 : tie.Need-enum-told-2 Inv-loop μ-loop
-enum-told-2 c = c .match .keys2
-
 returns-2 : tie.Need-returns-2 Inv-loop μ-loop
 unfolding outcomeOf
 returns-2 c =
     (let h = gone-over _ _ _ _ (c .before .before .before .before .before .before .loop .sets) (c .before .before .before .before .before .loop-test .taken) (c .before .before .before .before .before .before .loop .inv .2) (c .before .before .before .before .advance .result) (c .before .before .before .before .advance .ensures) (c .enum-told2 .given .1) in (sym h, given-chosen (c .before .before .before .before .before .before .before .before .before .before .before .before .pre .0 .0) _ _ (c .before .before .before .before .before .before .loop .inv .1)))
-
-enum-told-3 : tie.Need-enum-told-3 Inv-loop μ-loop
-enum-told-3 c = c .match .keys3
 
 level-of-requires-2 : tie.Need-level-of-requires-2 Inv-loop μ-loop
 level-of-requires-2 c κs =
@@ -82,14 +70,14 @@ walk-below-spec =
     μ-loop
     level-of-requires
     loop-holds
-    sub-most
+    (λ c. omega arith)
     advance-requires
     add-count
-    enum-told
+    (λ c. c .match .keys1)
     returns
-    enum-told-2
+    (λ c. c .match .keys2)
     returns-2
-    enum-told-3
+    (λ c. c .match .keys3)
     level-of-requires-2
     loop-less
     loop-again

@@ -25,27 +25,6 @@ is-dead-requires c κs = given-node (c .before .before .pre) root (sound-root _ 
 look-requires : tie.Need-look-requires
 look-requires c κs = (let p = c .before .before .before .pre in let q = given-variables p in (q .1, omega arith, p .narrow))
 
-enum-told : tie.Need-enum-told
-enum-told c = search needs
-
-enum-told-2 : tie.Need-enum-told-2
-enum-told-2 c = search needs
-
-enum-told-3 : tie.Need-enum-told-3
-enum-told-3 c = search needs
-
-prepare-requires : tie.Need-prepare-requires
-prepare-requires c κs = search needs
-
-slice-aggregate-walk-below : tie.Need-slice-aggregate-walk-below
-slice-aggregate-walk-below c = search needs
-
-slice-aggregate-walk-below-2 : tie.Need-slice-aggregate-walk-below-2
-slice-aggregate-walk-below-2 c = search needs
-
-slice-aggregate-walk-below-3 : tie.Need-slice-aggregate-walk-below-3
-slice-aggregate-walk-below-3 c = search needs
-
 walk-below-requires : tie.Need-walk-below-requires
 unfolding Looked deadAt
 walk-below-requires c κs =
@@ -63,9 +42,6 @@ unfolding outcomeOf Looked deadAt
 returns-3 c =
     (let p = c .before .before .before .before .before .before .before .pre in let q = given-variables p in let z = c .before .before .before .before .before .if1 .left in (sym (walked-over _ (c .before .before .before .before .before .before .before .args .budget) 0 root (walked-start _ _ root refl) (omega arith) (c .before .before .before .look .result .going) (c .before .before .before .look .result .sets) (c .before .before .before .look .ensures _ (sym (q .0)) (p .width) (sound-root _ _ (zeros 12)) (c .before .before .before .before .is-dead .ensures)) (c .enum-told2 .given .1)), omega arith))
 
-returns-4 : tie.Need-returns-4
-returns-4 c = search needs
-
 pub walk-from-root-spec : {M : Type 1} → statement M
 walk-from-root-spec =
     tie.close
@@ -73,14 +49,14 @@ walk-from-root-spec =
     returns
     is-dead-requires
     look-requires
-    enum-told
-    enum-told-2
-    enum-told-3
-    prepare-requires
-    slice-aggregate-walk-below
-    slice-aggregate-walk-below-2
-    slice-aggregate-walk-below-3
+    (λ c. search needs)
+    (λ c. search needs)
+    (λ c. search needs)
+    (λ c κs. search needs)
+    (λ c. search needs)
+    (λ c. search needs)
+    (λ c. search needs)
     walk-below-requires
     returns-2
     returns-3
-    returns-4)
+    (λ c. search needs))

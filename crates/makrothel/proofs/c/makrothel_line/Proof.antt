@@ -5,9 +5,6 @@ use Rattle.makrothel.proofs.CLaws.{no-line, a-line, line-within, line-s
 use Rattle.makrothel.proofs.c.makrothel_line.Statement.{statement}
 use Rattle.makrothel.proofs.c.makrothel_line.Tie as tie
 
-line-requires : tie.Need-line-requires
-line-requires c κs = search needs
-
 returns : tie.Need-returns
 returns c = no-line _ _ _ (c .before .before .line .ensures .0) (omega arith)
 
@@ -16,9 +13,6 @@ line-start-requires c κs = let h = a-line _ _ _ (c .before .line .ensures .0) (
 
 shared-slice-read-wide : tie.Need-shared-slice-read-wide
 shared-slice-read-wide c = omega (arith, line-within _ _ (a-line _ _ _ (c .before .before .before .line .ensures .0) (omega arith)) _ (c .before .line-start .ensures))
-
-wide-requires : tie.Need-wide-requires
-wide-requires c κs = search needs
 
 add-length : tie.Need-add-length
 add-length c = omega (arith, line-within _ _ (a-line _ _ _ (c .before .before .before .before .line .ensures .0) (omega arith)) _ (c .before .before .line-start .ensures))
@@ -30,10 +24,10 @@ pub makrothel-line-spec : {M : Type 1} → statement M
 makrothel-line-spec =
     tie.close
     (tie.spec
-    line-requires
+    (λ c κs. search needs)
     returns
     line-start-requires
     shared-slice-read-wide
-    wide-requires
+    (λ c κs. search needs)
     add-length
     returns-2)

@@ -6,15 +6,6 @@ use Rattle.makrothel.specs.C.{countAndPlace}
 use Rattle.makrothel.proofs.c.makrothel_solve.Statement.{statement}
 use Rattle.makrothel.proofs.c.makrothel_solve.Tie as tie
 
-solve-requires : tie.Need-solve-requires
-solve-requires c κs = search needs
-
-cast-t8 : tie.Need-cast-t8
-cast-t8 c = search needs
-
-same-length : tie.Need-same-length
-same-length c = search needs
-
 returns : tie.Need-returns
 unfolding answered countAndPlace
 returns c =
@@ -22,4 +13,4 @@ returns c =
     (ap (λ (a : Answered). a .number) e, (ap countAndPlace e, ap (λ (a : Answered). a .output) e))
 
 pub makrothel-solve-spec : {M : Type 1} → statement M
-makrothel-solve-spec = tie.close (tie.spec solve-requires cast-t8 same-length returns)
+makrothel-solve-spec = tie.close (tie.spec (λ c κs. search needs) (λ c. search needs) (λ c. search needs) returns)

@@ -10,7 +10,7 @@ use Prim.Native.Nat.{ℕ, _+_, _*_, min}
 use lib.Dec.{eqb, leb}
 use lib.ListN.{replicate}
 use Rattle.table.specs.Reading.{byteAt, reading}
-use Rattle.text.specs.Listing.{numberAt}
+use Rattle.output.specs.Written.{numberAt}
 use Rattle.text.specs.Batch.{readText, lineText, solveText}
 use Rattle.makrothel.specs.declared.ReadAnswer.{ReadAnswer}
 use Rattle.makrothel.specs.Answer.{readAnswer, linePart}

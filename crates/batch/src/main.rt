@@ -60,7 +60,7 @@ fn question_of(head: &[u8]) -> Question
 {
     Question {
         kind: head[0],
-        number: text::number_at(head, 1),
+        number: output::number_at(head, 1),
         room: least(two_at(head, 5), MOST),
         length: two_at(head, 7),
     }

@@ -10,9 +10,9 @@ use Rattle.el.specs.Test.{bit}
 use Rattle.el.specs.Table.{rowAt, atoms}
 use Rattle.table.specs.Code.{kindOf, within, fillerOfKind, fillerOf, entryOfKind, entryOf}
 use Rattle.table.specs.Reading.{marked, versionOne, readHeader, readMany, readRow, readEntry, readLine, readBody, reading, tableOf}
-use Rattle.output.specs.Written.{setBytes, written}
+use Rattle.output.specs.Written.{setBytes, numberAt, setIn, written}
 use Rattle.text.specs.Text.{decimalTo, decimal, behind, joined, numbersText}
-use Rattle.text.specs.Listing.{numberAt, fillerText, rowText, atomText, atomsIn, conjunctionText, setText, variableLine, variableLines, solvedText, firstLine, listingText}
+use Rattle.text.specs.Listing.{fillerText, rowText, atomText, atomsIn, conjunctionText, setText, variableLine, variableLines, solvedText, firstLine, listingText}
 use Rattle.text.specs.Examples.{worked}
 use Rattle.makrothel.specs.Solve.{answer}
 use Rattle.makrothel.specs.Cases.{Answers, cases-hold}
@@ -31,5 +31,5 @@ pub worked-example : reportText worked
     ≡ 0x30 ∷ 0x20 ∷ 0x31 ∷ 0x34 ∷ 0x20 ∷ 0x30 ∷ 0x0A
     ∷ 0x76 ∷ 0x30 ∷ 0x3A ∷ 0x20 ∷ 0x72 ∷ 0x30 ∷ 0x2E ∷ 0x76 ∷ 0x31 ∷ 0x0A
     ∷ 0x76 ∷ 0x31 ∷ 0x3A ∷ 0x20 ∷ 0x63 ∷ 0x30 ∷ 0x0A ∷ []
-unfolding worked reportText answerText written setBytes listingText firstLine solvedText variableLines variableLine setText conjunctionText atomsIn atomText rowText fillerText numberAt numbersText joined behind decimal decimalTo tableOf reading readBody readLine readEntry readRow readMany readHeader versionOne marked entryOf entryOfKind fillerOf fillerOfKind within kindOf rowAt atoms bit
+unfolding worked reportText answerText written setBytes listingText firstLine solvedText variableLines variableLine setText conjunctionText atomsIn atomText rowText fillerText setIn numberAt numbersText joined behind decimal decimalTo tableOf reading readBody readLine readEntry readRow readMany readHeader versionOne marked entryOf entryOfKind fillerOf fillerOfKind within kindOf rowAt atoms bit
 worked-example = ap (answerText worked) worked-answer

@@ -31,10 +31,11 @@ use Rattle.table.specs.Reading.{byteAt, Reading, refusal, readable, reading, th
 use Rattle.table.specs.Step.{verdictOf}
 use Rattle.table.specs.CodeLaws.{within-some}
 use Rattle.table.specs.LayoutLaws.{layout, refused-readable}
+use Rattle.output.specs.Written.{numberAt, setIn}
 use Rattle.text.specs.Append.{Appended}
 use Rattle.text.specs.AppendLaws.{appended-none, appended-then, appended-as}
 use Rattle.text.specs.Text.{newline, decimal, joined, numbersText}
-use Rattle.text.specs.Listing.{numberAt, topText, constantText, variableText, fillerText, codeText, rowText, atomText, atomsIn, ampersand, conjunctionText, atomOf, setText, variableLine, variableLines, solvedText, underNumber, firstLine, listingText}
+use Rattle.text.specs.Listing.{topText, constantText, variableText, fillerText, codeText, rowText, atomText, atomsIn, ampersand, conjunctionText, atomOf, setText, variableLine, variableLines, solvedText, underNumber, firstLine, listingText}
 use Rattle.text.proofs.Laws.{any, joined-more}
 
 ------------------------------------------------------------------ fillers, rows and atoms
@@ -177,29 +178,29 @@ module _ (t : Table) (s : ℕ) where
 module _ (t : Table) (out : List ℕ) where
   pub variable-line : {b m₁ m₂ m₃ a : List ℕ} {at e₁ e₂ e₃ r set : ℕ} (x : ℕ) → set ≡ numberAt out (4 * x)
       → Appended b at (variableText x) m₁ e₁ → Appended m₁ e₁ (0x3A ∷ 0x20 ∷ []) m₂ e₂ → Appended m₂ e₂ (setText t set) m₃ e₃ → Appended m₃ e₃ newline a r
-      → Appended b at (variableLine t out x) a r
-  unfolding variableLine
+      → Appended b at (variableLine t (setIn out x) x) a r
+  unfolding variableLine setIn
   variable-line x q h i j k =
       appended-as (appended-then h (appended-then i (appended-then j k)))
       (ap (λ (y : ℕ). variableText x ++ (0x3A ∷ 0x20 ∷ (setText t y ++ newline))) q)
 
-  pub lines-none : (b : List ℕ) (at : ℕ) → Appended b at (variableLines t out 0) b at
+  pub lines-none : (b : List ℕ) (at : ℕ) → Appended b at (variableLines t (setIn out) 0) b at
   unfolding variableLines
   lines-none b at = appended-none b at
 
-  pub lines-turn : {b m a : List ℕ} {at e r : ℕ} (x : ℕ) → Appended b at (variableLines t out x) m e → Appended m e (variableLine t out x) a r → Appended b at (variableLines t out (x + 1)) a r
+  pub lines-turn : {b m a : List ℕ} {at e r : ℕ} (x : ℕ) → Appended b at (variableLines t (setIn out) x) m e → Appended m e (variableLine t (setIn out x) x) a r → Appended b at (variableLines t (setIn out) (x + 1)) a r
   unfolding variableLines
-  lines-turn x h k = appended-as (appended-then h k) (sym (ap (variableLines t out) (add-one x)))
+  lines-turn x h k = appended-as (appended-then h k) (sym (ap (variableLines t (setIn out)) (add-one x)))
 
-  solved-by : (b : Bool) → ltb (length out) (4 * t .variables) ≡ b → solvedText t out ≡ elim b [ true ↦ [] | false ↦ variableLines t out (t .variables) ]
+  solved-by : (b : Bool) → ltb (length out) (4 * t .variables) ≡ b → solvedText t out ≡ elim b [ true ↦ [] | false ↦ variableLines t (setIn out) (t .variables) ]
   unfolding solvedText
-  solved-by b e = ap (λ (x : Bool). elim x [ true ↦ [] | false ↦ variableLines t out (t .variables) ]) e
+  solved-by b e = ap (λ (x : Bool). elim x [ true ↦ [] | false ↦ variableLines t (setIn out) (t .variables) ]) e
 
   pub solved-short : (b : List ℕ) (at n : ℕ) → t .variables ≡ n → length out < 4 * n → Appended b at (solvedText t out) b at
   solved-short b at n e h = appended-as (appended-none b at) (sym (solved-by true (lt-ltb (length out) (4 * t .variables) (omega arith))))
 
-  pub solved-all : {b a : List ℕ} {at r : ℕ} (n : ℕ) → t .variables ≡ n → 4 * n ≤ length out → Appended b at (variableLines t out n) a r → Appended b at (solvedText t out) a r
-  solved-all n e h x = appended-as x (ap (variableLines t out) (sym e) ∙ sym (solved-by false (le-ltb (length out) (4 * t .variables) (omega arith))))
+  pub solved-all : {b a : List ℕ} {at r : ℕ} (n : ℕ) → t .variables ≡ n → 4 * n ≤ length out → Appended b at (variableLines t (setIn out) n) a r → Appended b at (solvedText t out) a r
+  solved-all n e h x = appended-as x (ap (variableLines t (setIn out)) (sym e) ∙ sym (solved-by false (le-ltb (length out) (4 * t .variables) (omega arith))))
 
 module _ (s : List ℕ) where
   refused-none : (n p : ℕ) → verdictOf (reading s) ≡ Refused n p → tableOf s .variables ≡ 0

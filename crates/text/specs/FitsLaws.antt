@@ -24,7 +24,8 @@ use Rattle.table.specs.Layout.{Layout}
 use Rattle.table.specs.LayoutLaws.{layout}
 use Rattle.text.specs.Text.{space, decimal, behind, joined, numbersText, hexText}
 use Rattle.text.specs.TextLaws.{decimal-length, hex-length}
-use Rattle.text.specs.Listing.{numberAt, constantText, fillerText, rowText, atomText, atomsIn, ampersand, conjunctionText, setText, variableLine, variableLines, solvedText, underNumber, firstLine, listingText}
+use Rattle.output.specs.Written.{setIn}
+use Rattle.text.specs.Listing.{constantText, fillerText, rowText, atomText, atomsIn, ampersand, conjunctionText, setText, variableLine, variableLines, solvedText, underNumber, firstLine, listingText}
 use Rattle.text.specs.Batch.{readText, lineText, solveText}
 
 abbrev pub Short : ℕ → List (List ℕ) → Type 0
@@ -146,14 +147,14 @@ module _ (s : List ℕ) (ok : T (isReadable (reading s))) where
         let r : length ts ≡ length (atomsIn (atoms (tableOf s)) x) = length-map (atomsIn (atoms (tableOf s)) x) (atomText (tableOf s)) in
         omega (arith, atoms-length (atoms (tableOf s)), few-atoms)
 
-  module _ (out : List ℕ) where
-    lines-length : (n : ℕ) → n ≤ 12 → length (variableLines (tableOf s) out n) ≤ 249 * n
+  module _ (a : ℕ → ℕ) where
+    lines-length : (n : ℕ) → n ≤ 12 → length (variableLines (tableOf s) a n) ≤ 249 * n
     unfolding variableLines variableLine
     lines-length zero h = omega arith
     lines-length (suc n) h =
-        let p : length (variableLines (tableOf s) out n) ≤ 249 * n = lines-length n (omega arith) in
+        let p : length (variableLines (tableOf s) a n) ≤ 249 * n = lines-length n (omega arith) in
         let q : length (decimal n) ≤ 2 = two-digits n (omega arith) in
-        let r : length (setText (tableOf s) (numberAt out (4 * n))) ≤ 243 = set-length (numberAt out (4 * n)) in
+        let r : length (setText (tableOf s) (a n)) ≤ 243 = set-length (a n) in
         simp length-append (omega arith)
 
 unreadable-none : (s : List ℕ) → isReadable (reading s) ≡ false → tableOf s .variables ≡ 0
@@ -164,18 +165,18 @@ unreadable-none s e = go (reading s) e
     go (refusal n p) e = refl
     go (readable h t) e = absurd (let z : _≡_ {A = ℕ} 0 1 = cc in let w : ⊥ = omega arith in w)
 
-all-lines-length : (s out : List ℕ) (b : Bool) → isReadable (reading s) ≡ b → length (variableLines (tableOf s) out (tableOf s .variables)) ≤ 2988
+all-lines-length : (s : List ℕ) (a : ℕ → ℕ) (b : Bool) → isReadable (reading s) ≡ b → length (variableLines (tableOf s) a (tableOf s .variables)) ≤ 2988
 unfolding variableLines
-all-lines-length s out true e = let ok : T (isReadable (reading s)) = subst T (sym e) tt in omega (arith, lines-length s ok out (tableOf s .variables) (few-variables s ok), few-variables s ok)
-all-lines-length s out false e = subst (λ (n : ℕ). length (variableLines (tableOf s) out n) ≤ 2988) (sym (unreadable-none s e)) (omega arith)
+all-lines-length s a true e = let ok : T (isReadable (reading s)) = subst T (sym e) tt in omega (arith, lines-length s ok a (tableOf s .variables) (few-variables s ok), few-variables s ok)
+all-lines-length s a false e = subst (λ (n : ℕ). length (variableLines (tableOf s) a n) ≤ 2988) (sym (unreadable-none s e)) (omega arith)
 
 solved-length : (s out : List ℕ) → length (solvedText (tableOf s) out) ≤ 2988
 unfolding solvedText
 solved-length s out = go (ltb (length out) (4 * tableOf s .variables))
   where
-    go : (b : Bool) → length {A = ℕ} (elim b [ true ↦ [] | false ↦ variableLines (tableOf s) out (tableOf s .variables) ]) ≤ 2988
+    go : (b : Bool) → length {A = ℕ} (elim b [ true ↦ [] | false ↦ variableLines (tableOf s) (setIn out) (tableOf s .variables) ]) ≤ 2988
     go true = omega arith
-    go false = all-lines-length s out (isReadable (reading s)) refl
+    go false = all-lines-length s (setIn out) (isReadable (reading s)) refl
 
 under-length : (n : ℕ) (text : List ℕ) → length (underNumber n text) ≤ length text
 under-length zero text = omega arith

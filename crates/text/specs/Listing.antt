@@ -1,6 +1,5 @@
 -- The text of an answer, as the listing program writes it.
 --
---   numberAt s at        == the number in the four bytes from `at` on, little-endian
 --   fillerText f         == `top`, `c0`, `v1`
 --   codeText kind        == a filler by the kind of its code; nothing for a code that is no filler
 --   rowText row          == `r0.v1`, `r0.c0`, `r0.top`
@@ -9,25 +8,22 @@
 --   conjunctionText ts   == the texts joined by ` & `, or `top` for none
 --   setText t s          == the set s
 --   atomOf t s i later   == atom i, where the set s has it, with ` & ` before it if it is a later one
---   variableLine t out x == the line of variable x
---   variableLines t out n == the lines of variables 0 to n - 1
+--   variableLine t s x   == the line of variable x, whose set is s
+--   variableLines t a n  == the lines of variables 0 to n - 1, whose sets a gives
 --   solvedText t out     == the lines of all variables, where the output holds a set for each
 --   listingText s number count place out == the whole text
 use mathlib.Core.Bool.{Bool, true, false, cond}
 use mathlib.Core.List.{List, [], _∷_, _++_, map}
-use Prim.Native.Nat.{ℕ, zero, suc, _+_, _*_, _-_}
+use Prim.Native.Nat.{ℕ, zero, suc, _*_, _-_}
 use lib.Dec.{ltb}
 use lib.ListN.{length}
 use Rattle.el.specs.Test.{bit}
 use Rattle.el.specs.Table.{Filler, topF, constantF, variableF, Row, Table, rowAt, atoms}
 use Rattle.table.specs.declared.Kind.{Kind}
 use Rattle.table.specs.declared.Kind.the-variants.{Top, Constant, Restriction, Variable, Other}
-use Rattle.table.specs.Reading.{byteAt, tableOf}
+use Rattle.table.specs.Reading.{tableOf}
+use Rattle.output.specs.Written.{setIn}
 use Rattle.text.specs.Text.{newline, decimal, joined, numbersText}
-
--- "each variable's set number, four bytes"
-unfoldable pub numberAt : List ℕ → ℕ → ℕ
-numberAt s at = byteAt s at + 256 * byteAt s (at + 1) + 65536 * byteAt s (at + 2) + 16777216 * byteAt s (at + 3)
 
 abbrev pub topText : List ℕ
 topText = 0x74 ∷ 0x6F ∷ 0x70 ∷ []
@@ -81,15 +77,15 @@ unfoldable pub atomOf : Table → ℕ → ℕ → Bool → List ℕ
 atomOf t s i later = elim (bit i s) [ true ↦ cond later ampersand [] ++ atomText t i | false ↦ [] ]
 
 -- "a line per variable follows: `v`, number, `: `, then its atoms"
-unfoldable pub variableLine : Table → List ℕ → ℕ → List ℕ
-variableLine t out x = variableText x ++ (0x3A ∷ 0x20 ∷ (setText t (numberAt out (4 * x)) ++ newline))
+unfoldable pub variableLine : Table → ℕ → ℕ → List ℕ
+variableLine t s x = variableText x ++ (0x3A ∷ 0x20 ∷ (setText t s ++ newline))
 
-unfoldable pub variableLines : Table → List ℕ → ℕ → List ℕ
-variableLines t out zero = []
-variableLines t out (suc n) = variableLines t out n ++ variableLine t out n
+unfoldable pub variableLines : Table → (ℕ → ℕ) → ℕ → List ℕ
+variableLines t a zero = []
+variableLines t a (suc n) = variableLines t a n ++ variableLine t (a n) n
 
 unfoldable pub solvedText : Table → List ℕ → List ℕ
-solvedText t out = elim (ltb (length out) (4 * t .variables)) [ true ↦ [] | false ↦ variableLines t out (t .variables) ]
+solvedText t out = elim (ltb (length out) (4 * t .variables)) [ true ↦ [] | false ↦ variableLines t (setIn out) (t .variables) ]
 
 -- "If the number is 0"
 abbrev pub underNumber : ℕ → List ℕ → List ℕ

@@ -12,7 +12,8 @@ ghost use Rattle.table.specs.Code.{kindOf};
 ghost use Rattle.table.specs.Reading.{byteAt, reading, tableOf, isReadable};
 ghost use Rattle.text.specs.Append.{Appended};
 ghost use Rattle.text.specs.Text.{digit, decimal, numbersText, bytesText, hexText};
-ghost use Rattle.text.specs.Listing.{numberAt, codeText, rowText, atomText, atomOf, setText, variableLine, variableLines, solvedText, listingText};
+ghost use Rattle.output.specs.Written.{setIn};
+ghost use Rattle.text.specs.Listing.{codeText, rowText, atomText, atomOf, setText, variableLine, variableLines, solvedText, listingText};
 ghost use Rattle.text.specs.Batch.{readText, lineText, solveText};
 use table::Kind;
 use table::Verdict;
@@ -213,22 +214,12 @@ fn put_set(table: &[u8], set: u32, buffer: &mut [u8], at: usize) -> usize
     put_text(b"top", buffer, end)
 }
 
-// The number in four bytes, little-endian.
-pub fn number_at(bytes: &[u8], at: usize) -> u32
-    requires { ⌜ at + 4 ≤ length (now bytes) ⌝ }
-    ensures { λ r. ⌜ r ≡ numberAt (now (bytes .entry)) at ⌝ }
-{
-    let low = byte_at(bytes, at) + 256 * byte_at(bytes, at + 1);
-    let high = byte_at(bytes, at + 2) + 256 * byte_at(bytes, at + 3);
-    (low + 65536 * high) as u32
-}
-
 // The line of variable x.
 fn put_variable(table: &[u8], x: usize, output: &[u8], buffer: &mut [u8], at: usize) -> usize
     requires { ⌜ T (isReadable (reading (now table))) × (4 * x + 4 ≤ length (now output)) ⌝ }
-    ensures { λ r. ⌜ Appended (now (buffer .entry)) at (variableLine (tableOf (now (table .entry))) (now (output .entry)) x) (now (buffer .exit)) r ⌝ }
+    ensures { λ r. ⌜ Appended (now (buffer .entry)) at (variableLine (tableOf (now (table .entry))) (setIn (now (output .entry)) x) x) (now (buffer .exit)) r ⌝ }
 {
-    let set = number_at(output, 4 * x);
+    let set = output::number_at(output, 4 * x);
     let mut end = put_named(b'v', x, buffer, at);
     end = put_text(b": ", buffer, end);
     end = put_set(table, set, buffer, end);
@@ -238,7 +229,7 @@ fn put_variable(table: &[u8], x: usize, output: &[u8], buffer: &mut [u8], at: us
 // The lines of the first n variables.
 fn put_variables(table: &[u8], n: usize, output: &[u8], buffer: &mut [u8], at: usize) -> usize
     requires { ⌜ T (isReadable (reading (now table))) × (4 * n ≤ length (now output)) ⌝ }
-    ensures { λ r. ⌜ Appended (now (buffer .entry)) at (variableLines (tableOf (now (table .entry))) (now (output .entry)) n) (now (buffer .exit)) r ⌝ }
+    ensures { λ r. ⌜ Appended (now (buffer .entry)) at (variableLines (tableOf (now (table .entry))) (setIn (now (output .entry))) n) (now (buffer .exit)) r ⌝ }
 {
     let mut end = at;
     let mut x = 0;

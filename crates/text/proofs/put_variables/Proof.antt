@@ -6,13 +6,14 @@ use native.Mathlib.Omega.{arith}
 use Rattle.table.specs.Reading.{tableOf}
 use Rattle.text.specs.Append.{Appended}
 use Rattle.text.specs.AppendLaws.{appended-as, appended-length}
+use Rattle.output.specs.Written.{setIn}
 use Rattle.text.specs.Listing.{variableLines}
 use Rattle.text.proofs.ListingLaws.{lines-none, lines-turn}
 use Rattle.text.proofs.put_variables.Statement.{statement}
 use Rattle.text.proofs.put_variables.Tie as tie
 
 abbrev Inv-loop : tie.InvT-loop
-Inv-loop table n output buffer₀ at end₀ x₀ buffer end x = (x ≤ n) × Appended buffer₀ at (variableLines (tableOf table) output x) buffer end
+Inv-loop table n output buffer₀ at end₀ x₀ buffer end x = (x ≤ n) × Appended buffer₀ at (variableLines (tableOf table) (setIn output) x) buffer end
 
 abbrev μ-loop : tie.MeasureT-loop
 μ-loop table n output buffer₀ at end₀ x₀ buffer end x = n - x

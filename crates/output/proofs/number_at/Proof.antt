@@ -1,9 +1,9 @@
--- `text::number_at` meets its contract. A sum of four bytes, which fits.
+-- `output::number_at` meets its contract. A sum of four bytes, which fits.
 use borrow.Author.Needs.{needs}
 use native.Mathlib.Omega.{arith}
-use Rattle.text.specs.Listing.{numberAt}
-use Rattle.text.proofs.number_at.Statement.{statement}
-use Rattle.text.proofs.number_at.Tie as tie
+use Rattle.output.specs.Written.{numberAt}
+use Rattle.output.proofs.number_at.Statement.{statement}
+use Rattle.output.proofs.number_at.Tie as tie
 
 returns : tie.Need-returns
 unfolding numberAt

@@ -14,7 +14,7 @@ use lib.Dec.{eqb, leb, ltb}
 use lib.ListN.{length, take, drop, replicate, length-take, length-drop, length-replicate}
 use borrow.Author.Tests.{le-leb, lt-leb, leb-true, eq-eqb, ne-eqb}
 use Rattle.io.specs.Counts.{Counts}
-use Rattle.table.specs.Reading.{byteAt, reading, isReadable}
+use Rattle.table.specs.Reading.{byteAt, reading, isReadable, headerOf}
 use Rattle.table.specs.Layout.{lineStart}
 use Rattle.text.specs.Append.{Appended}
 use Rattle.text.specs.AppendLaws.{appended-whole}
@@ -64,7 +64,7 @@ at-start {b} {t} room fits e h = let w = appended-whole h (omega arith) in ((w .
 
 part-length : (s : List ℕ) (n : ℕ) → length (linePart s n) ≤ length s
 unfolding linePart hasLine
-part-length s n = go (isReadable (reading s) && ltb n (byteAt s 9))
+part-length s n = go (isReadable (reading s) && ltb n (headerOf s .m))
   where
     go : (x : Bool) → length (cond x (take (byteAt s (lineStart s n) + 2) (drop (lineStart s n) s)) []) ≤ length s
     go true = simp (length-take, length-drop) (omega arith)

@@ -7,6 +7,7 @@
 --   Table        == the counts c, r and v, the rows (there are e) and the lines (there are m)
 --   rowAt rows k == row k
 --   atoms t      == c + e, how many non-variable atoms there are
+--   roleOrder t  == which roles of t lie under which; where there is no order of roles, each under itself alone
 --   declared t   == every constant, restriction, variable and role that the table names is declared
 use mathlib.Core.Bool.{Bool, true, _&&_}
 use mathlib.Core.List.{List}
@@ -14,6 +15,7 @@ use Prim.Native.Nat.{ℕ, _+_}
 use lib.Dec.{ltb}
 use lib.ListN.{length, getD}
 use Rattle.el.specs.Test.{everyOf}
+use Rattle.el.specs.Description.{sameRole}
 
 -- "A filler is top, a constant or a variable."
 pub data Filler : Type 0 where
@@ -47,6 +49,10 @@ rowAt rows k = getD rows k (record { role = 0; filler = topF })
 -- "The non-variable atoms are all declared constants and restriction rows, used or not."
 unfoldable pub atoms : Table → ℕ
 atoms t = t .constants + length (t .rows)
+
+-- "C has a restriction with the same role s"
+abbrev pub roleOrder : Table → ℕ → ℕ → Bool
+roleOrder t = sameRole
 
 -- "k < c", "k < e", "k < v", "a role, less than r"
 abbrev pub fillerDeclared : Table → Filler → Bool

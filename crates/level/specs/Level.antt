@@ -29,13 +29,12 @@ use lib.Dec.{T, eqb}
 use lib.ListN.{length, getD, take, set}
 use lib.Bits.{bitAnd}
 use Rattle.el.specs.Test.{anyBelow, bit}
-use Rattle.el.specs.Description.{sameRole}
-use Rattle.el.specs.Table.{Table}
+use Rattle.el.specs.Table.{Table, roleOrder}
 use Rattle.el.specs.Meaning.{holds}
 use Rattle.el.specs.Assignment.{acyclic, induced}
 use Rattle.el.specs.Walk.{Node, dead}
 use Rattle.el.specs.ChildLaws.{newly, freshly}
-use Rattle.table.specs.Reading.{byteAt, reading, isReadable, tableOf}
+use Rattle.table.specs.Reading.{reading, isReadable, tableOf, headerOf}
 use Rattle.table.specs.Layout.{lineAt}
 use Rattle.node.specs.declared.Sets.{Sets}
 use Rattle.node.specs.Node.{LineStarts, NodeGiven, rowOf}
@@ -84,22 +83,22 @@ pub record Levels (t : Table) (p : Node) (m : ℕ) (level : Level) : Type 0 wher
   pub lines : Listed (λ n. freshly t p (lineAt (t .lines) n)) m (level .fresh) (level .few)
 
 unfoldable pub failsAt : List ℕ → List ℕ → ℕ → Bool
-failsAt s set n = not (holds sameRole (tableOf s .rows) (induced (tableOf s) set) (lineAt (tableOf s .lines) n))
+failsAt s set n = not (holds (roleOrder (tableOf s)) (tableOf s .rows) (induced (tableOf s) set) (lineAt (tableOf s .lines) n))
 
 unfoldable pub freshFails : List ℕ → List ℕ → List ℕ → ℕ → Bool
 freshFails s set fresh few = anyBelow few (λ i. failsAt s set (getD fresh i 0))
 
 pub record FreshGiven (s start : List ℕ) (c e v : ℕ) (fresh : List ℕ) (few : ℕ) (set : List ℕ) : Type 0 where
   pub readable : T (isReadable (reading s))
-  pub constants : c ≡ byteAt s 5
-  pub restrictions : e ≡ byteAt s 8
-  pub variables : v ≡ byteAt s 7
-  pub starts : LineStarts s (byteAt s 9) start
+  pub constants : c ≡ headerOf s .c
+  pub restrictions : e ≡ headerOf s .e
+  pub variables : v ≡ headerOf s .v
+  pub starts : LineStarts s (headerOf s .m) start
   pub room : length start ≡ 64
   pub sets : length set ≡ 12
   pub straight : T (acyclic (tableOf s) set)
   pub few-fit : few ≤ length fresh
-  pub in-table : (i : ℕ) → i < few → getD fresh i 0 < byteAt s 9
+  pub in-table : (i : ℕ) → i < few → getD fresh i 0 < headerOf s .m
 
 -- the first k sets of a list, as the code holds a node
 abbrev pub setsOf : List ℕ → ℕ → Sets
@@ -111,12 +110,12 @@ levelOf turning leaving fresh few = record { turning = turning; leaving = leavin
 -- a child of a live node, and the level that it is tested by
 pub record ChildGiven (s start : List ℕ) (turning leaving : ℕ) (fresh : List ℕ) (few c e v m k : ℕ) (set : List ℕ) : Type 0 where
   pub node : NodeGiven s c e v m (setsOf set k)
-  pub starts : LineStarts s (byteAt s 9) start
+  pub starts : LineStarts s (headerOf s .m) start
   pub start-room : length start ≡ 64
   pub room : length set ≡ 12
   pub some : 0 < k
   pub level : Levels (tableOf s) (take (k - 1) set) m (levelOf turning leaving fresh few)
-  pub live : dead sameRole (tableOf s) (take (k - 1) set) ≡ false
+  pub live : dead (roleOrder (tableOf s)) (tableOf s) (take (k - 1) set) ≡ false
 
 pub record SweepGiven (s start : List ℕ) (level : Level) (c e v m : ℕ) (sets : Sets) (last : ℕ) : Type 0 where
   pub child : length (sets .set) ≡ 12 → ChildGiven s start (level .turning) (level .leaving) (level .fresh) (level .few) c e v m (sets .chosen) (sets .set)
@@ -131,7 +130,7 @@ abbrev pub ownOf : Sets → ℕ
 ownOf sets = getD (sets .set) (sets .chosen - 1) 0
 
 unfoldable pub deadSibling : Table → Sets → ℕ → Bool
-deadSibling t sets x = dead sameRole t (take (sets .chosen) (siblingOf sets x))
+deadSibling t sets x = dead (roleOrder t) t (take (sets .chosen) (siblingOf sets x))
 
 -- the i siblings from the node on are dead
 unfoldable pub Passes : Table → Sets → ℕ → Type 0

@@ -34,7 +34,7 @@ use borrow.Author.Tests.{eq-eqb, ne-eqb, lt-ltb, le-ltb}
 use Rattle.el.specs.Test.{anyBelow, allBelow, anyOf, bit}
 use Rattle.el.specs.TestLaws.{is-true, is-false, true-is, false-not, same-test, or-left, or-right, or-cases, and-make, and-left, and-right, anyBelow-hit, anyBelow-found, anyBelow-next, anyBelow-same, anyBelow-step, anyBelow-true-at, anyBelow-none, allBelow-all, allBelow-at, anyOf-append, anyOf-hit, anyOf-found, bit-none}
 use Rattle.el.specs.Description.{sameRole}
-use Rattle.el.specs.Table.{Line, Table, declared}
+use Rattle.el.specs.Table.{Line, Table, declared, roleOrder}
 use Rattle.el.specs.Meaning.{holds}
 use Rattle.el.specs.Assignment.{setOf, depends, reaches, acyclic, induced}
 use Rattle.el.specs.ReachLaws.{acyclic-same, reaches-means, reaches-declared}
@@ -42,7 +42,7 @@ use Rattle.el.specs.Walk.{Node, lineVariables, dead}
 use Rattle.el.specs.NodeLaws.{dead-cyclic}
 use Rattle.el.specs.FreshLaws.{childOf}
 use Rattle.el.specs.ChildLaws.{newly, freshly, child-acyclic, child-open, child-dead}
-use Rattle.table.specs.Reading.{byteAt, tableOf}
+use Rattle.table.specs.Reading.{tableOf, headerOf}
 use Rattle.table.specs.Layout.{lineAt}
 use Rattle.table.specs.LayoutLaws.{layout}
 use Rattle.order.specs.Given.{LineGiven}
@@ -381,10 +381,10 @@ unfolding freshFails anyBelow
 lines-start s set fresh = refl
 
 module _ (s set fresh : List ℕ) (i n : ℕ) (this : n ≡ getD fresh i 0) (b : Bool)
-    (answers : b ≡ holds sameRole (tableOf s .rows) (induced (tableOf s) set) (lineAt (tableOf s .lines) n)) where
+    (answers : b ≡ holds (roleOrder (tableOf s)) (tableOf s .rows) (induced (tableOf s) set) (lineAt (tableOf s .lines) n)) where
   answer-at : not b ≡ failsAt s set (getD fresh i 0)
   unfolding failsAt
-  answer-at = ap not answers ∙ ap (λ (k : ℕ). not (holds sameRole (tableOf s .rows) (induced (tableOf s) set) (lineAt (tableOf s .lines) k))) this
+  answer-at = ap not answers ∙ ap (λ (k : ℕ). not (holds (roleOrder (tableOf s)) (tableOf s .rows) (induced (tableOf s) set) (lineAt (tableOf s .lines) k))) this
 
   pub lines-fail : (few : ℕ) → i < few → not b ≡ true → true ≡ freshFails s set fresh few
   unfolding freshFails
@@ -400,12 +400,12 @@ lines-whole s set fresh few i h k e = let q : few ≡ i = omega arith in sym (ap
 module _ (s start : List ℕ) (c e v : ℕ) (fresh : List ℕ) (few : ℕ) (sets : List ℕ) (given : FreshGiven s start c e v fresh few sets) where
   pub fresh-in : (i n : ℕ) → i < few → n ≡ getD fresh i 0 → n < length start
   fresh-in i n h q =
-      let k : getD fresh i 0 < byteAt s 9 = given .in-table i h in let f : byteAt s 9 ≤ 64 = layout s (given .readable) .few-lines in
+      let k : getD fresh i 0 < headerOf s .m = given .in-table i h in let f : headerOf s .m ≤ 64 = layout s (given .readable) .few-lines in
       let r : length start ≡ 64 = given .room in omega arith
 
   pub fresh-line : (i n : ℕ) → i < few → n ≡ getD fresh i 0 → LineGiven s sets c e v n (getD start n 0)
   fresh-line i n h q =
-      let k : n < byteAt s 9 = (let z : getD fresh i 0 < byteAt s 9 = given .in-table i h in omega arith) in
+      let k : n < headerOf s .m = (let z : getD fresh i 0 < headerOf s .m = given .in-table i h in omega arith) in
       record {
         readable = given .readable;
         constants = given .constants;
@@ -435,8 +435,8 @@ module _ (s : List ℕ) (c e v m : ℕ) (sets : Sets) (given : NodeGiven s c e v
 
   pub parent-few : length parent < tableOf s .variables
   parent-few =
-      let h : sets .chosen ≤ v = given .chosen in let q : v ≡ byteAt s 7 = given .variables in
-      let r : tableOf s .variables ≡ byteAt s 7 = node-layout s c e v m sets given .variables in let n = parent-length in omega arith
+      let h : sets .chosen ≤ v = given .chosen in let q : v ≡ headerOf s .v = given .variables in
+      let r : tableOf s .variables ≡ headerOf s .v = node-layout s c e v m sets given .variables in let n = parent-length in omega arith
 
   -- the node is its parent with one set more
   pub node-child : nodeOf sets ≡ childOf parent own
@@ -604,26 +604,26 @@ module _ (s : List ℕ) (c e v m : ℕ) (sets : Sets) (given : NodeGiven s c e v
         (q .0, q .1, omega arith, parent-clean)
 
     pub few-lines : (m ≤ 64) × (length mask ≡ 64)
-    few-lines = let f : byteAt s 9 ≤ 64 = node-layout s c e v m sets given .few-lines in let q : m ≡ byteAt s 9 = given .lines in (omega arith, ready .mask-room)
+    few-lines = let f : headerOf s .m ≤ 64 = node-layout s c e v m sets given .few-lines in let q : m ≡ headerOf s .m = given .lines in (omega arith, ready .mask-room)
 
   -- THE TEST OF A CHILD
-  module _ (start : List ℕ) (starts : LineStarts s (byteAt s 9) start) (start-room : length start ≡ 64) where
-    module _ (level : Level) (is : Levels (tableOf s) parent m level) (parent-live : dead sameRole (tableOf s) parent ≡ false) where
+  module _ (start : List ℕ) (starts : LineStarts s (headerOf s .m) start) (start-room : length start ≡ 64) where
+    module _ (level : Level) (is : Levels (tableOf s) parent m level) (parent-live : dead (roleOrder (tableOf s)) (tableOf s) parent ≡ false) where
       parent-straight : acyclic (tableOf s) parent ≡ true
       parent-straight = go (acyclic (tableOf s) parent) refl
         where
           go : (b : Bool) → acyclic (tableOf s) parent ≡ b → acyclic (tableOf s) parent ≡ true
           go true q = q
-          go false q = absurd (false-not (dead sameRole (tableOf s) parent) parent-live (true-is (dead sameRole (tableOf s) parent) (dead-cyclic sameRole (tableOf s) parent q)))
+          go false q = absurd (false-not (dead (roleOrder (tableOf s)) (tableOf s) parent) parent-live (true-is (dead (roleOrder (tableOf s)) (tableOf s) parent) (dead-cyclic (roleOrder (tableOf s)) (tableOf s) parent q)))
 
-      as-child : (b : Bool) → dead sameRole (tableOf s) (childOf parent own) ≡ b → b ≡ dead sameRole (tableOf s) (nodeOf sets)
-      as-child b q = sym q ∙ ap (dead sameRole (tableOf s)) (sym node-child)
+      as-child : (b : Bool) → dead (roleOrder (tableOf s)) (tableOf s) (childOf parent own) ≡ b → b ≡ dead (roleOrder (tableOf s)) (tableOf s) (nodeOf sets)
+      as-child b q = sym q ∙ ap (dead (roleOrder (tableOf s)) (tableOf s)) (sym node-child)
 
-      pub dead-cycle : (bitAnd own (level .turning) ≡ 0 → ⊥) → true ≡ dead sameRole (tableOf s) (nodeOf sets)
+      pub dead-cycle : (bitAnd own (level .turning) ≡ 0 → ⊥) → true ≡ dead (roleOrder (tableOf s)) (tableOf s) (nodeOf sets)
       unfolding Tells
       dead-cycle h =
           let f = is .turning own .0 h in
-          as-child true (dead-cyclic sameRole (tableOf s) (childOf parent own)
+          as-child true (dead-cyclic (roleOrder (tableOf s)) (tableOf s) (childOf parent own)
           (child-acyclic (tableOf s) known-table parent own parent-straight ∙ ap not (subst (λ (w : ℕ). newly (tableOf s) parent own w ≡ true) (f .1) (f .2))))
 
       module _ (none : bitAnd own (level .turning) ≡ 0) where
@@ -633,7 +633,7 @@ module _ (s : List ℕ) (c e v m : ℕ) (sets : Sets) (given : NodeGiven s c e v
         straight : acyclic (tableOf s) (childOf parent own) ≡ true
         straight = child-acyclic (tableOf s) known-table parent own parent-straight ∙ ap not no-new
 
-        pub dead-open : (bitAnd own (level .leaving) ≡ 0 → ⊥) → false ≡ dead sameRole (tableOf s) (nodeOf sets)
+        pub dead-open : (bitAnd own (level .leaving) ≡ 0 → ⊥) → false ≡ dead (roleOrder (tableOf s)) (tableOf s) (nodeOf sets)
         unfolding Tells
         dead-open h =
             let f = is .leaving own .0 h in
@@ -663,21 +663,21 @@ module _ (s : List ℕ) (c e v m : ℕ) (sets : Sets) (given : NodeGiven s c e v
                 in-table = λ i h. inside i h;
               }
             where
-              inside : (i : ℕ) → i < level .few → getD (level .fresh) i 0 < byteAt s 9
+              inside : (i : ℕ) → i < level .few → getD (level .fresh) i 0 < headerOf s .m
               inside i h =
                   let n : length (take (level .few) (level .fresh)) ≡ level .few = length-take-le (level .few) (level .fresh) (is .lines .few-fit) in
                   let k : getD (passing (λ n. freshly (tableOf s) parent (lineAt (tableOf s .lines) n)) m) i 0 < m =
                   passing-below (λ n. freshly (tableOf s) parent (lineAt (tableOf s .lines) n)) m i (subst (λ (l : List ℕ). i < length l) (is .lines .numbers) (omega arith)) in
                   let q : getD (level .fresh) i 0 ≡ getD (passing (λ n. freshly (tableOf s) parent (lineAt (tableOf s .lines) n)) m) i 0 =
                   sym (getD-take (level .few) (level .fresh) i 0 h) ∙ ap (λ (l : List ℕ). getD l i 0) (is .lines .numbers) in
-                  let z : m ≡ byteAt s 9 = given .lines in omega arith
+                  let z : m ≡ headerOf s .m = given .lines in omega arith
 
           -- one of the level's lines fails exactly if the node is dead
-          pub dead-fresh : freshFails s (sets .set) (level .fresh) (level .few) ≡ dead sameRole (tableOf s) (nodeOf sets)
+          pub dead-fresh : freshFails s (sets .set) (level .fresh) (level .few) ≡ dead (roleOrder (tableOf s)) (tableOf s) (nodeOf sets)
           dead-fresh =
               listed-any ∙ ap (anyOf fail) (is .lines .numbers) ∙ passing-any (λ n. freshly (tableOf s) parent (lineAt (tableOf s .lines) n)) fail m
               ∙ lines-any
-              ∙ sym (ap (dead sameRole (tableOf s)) node-child ∙ child-dead (tableOf s) known-table parent own sameRole parent-live no-new straight closed)
+              ∙ sym (ap (dead (roleOrder (tableOf s)) (tableOf s)) node-child ∙ child-dead (tableOf s) known-table parent own sameRole parent-live no-new straight closed)
             where
               fail : ℕ → Bool
               fail n = failsAt s (sets .set) n
@@ -685,16 +685,16 @@ module _ (s : List ℕ) (c e v m : ℕ) (sets : Sets) (given : NodeGiven s c e v
               listed-any : freshFails s (sets .set) (level .fresh) (level .few) ≡ anyOf fail (take (level .few) (level .fresh))
               listed-any = unfold freshFails in any-take fail (level .fresh) (level .few) (is .lines .few-fit)
 
-              at-child : (l : Line) → not (holds sameRole (tableOf s .rows) (induced (tableOf s) (sets .set)) l) ≡ not (holds sameRole (tableOf s .rows) (induced (tableOf s) (childOf parent own)) l)
+              at-child : (l : Line) → not (holds (roleOrder (tableOf s)) (tableOf s .rows) (induced (tableOf s) (sets .set)) l) ≡ not (holds (roleOrder (tableOf s)) (tableOf s .rows) (induced (tableOf s) (childOf parent own)) l)
               at-child l =
                   ap not (sym (same-holds (tableOf s) (nodeOf sets) (sets .set) (same-sets sets (given .clean)) l)
-                  ∙ ap (λ (n : Node). holds sameRole (tableOf s .rows) (induced (tableOf s) n) l) node-child)
+                  ∙ ap (λ (n : Node). holds (roleOrder (tableOf s)) (tableOf s .rows) (induced (tableOf s) n) l) node-child)
 
-              here : (n : ℕ) → failsAt s (sets .set) n ≡ not (holds sameRole (tableOf s .rows) (induced (tableOf s) (childOf parent own)) (lineAt (tableOf s .lines) n))
+              here : (n : ℕ) → failsAt s (sets .set) n ≡ not (holds (roleOrder (tableOf s)) (tableOf s .rows) (induced (tableOf s) (childOf parent own)) (lineAt (tableOf s .lines) n))
               here n = unfold failsAt in at-child (lineAt (tableOf s .lines) n)
 
               lines-any : anyBelow m (λ n. freshly (tableOf s) parent (lineAt (tableOf s .lines) n) && fail n)
-                  ≡ anyOf (λ l. freshly (tableOf s) parent l && not (holds sameRole (tableOf s .rows) (induced (tableOf s) (childOf parent own)) l)) (tableOf s .lines)
+                  ≡ anyOf (λ l. freshly (tableOf s) parent l && not (holds (roleOrder (tableOf s)) (tableOf s .rows) (induced (tableOf s) (childOf parent own)) l)) (tableOf s .lines)
               lines-any =
                   anyBelow-same m (λ n. freshly (tableOf s) parent (lineAt (tableOf s .lines) n) && fail n) (λ n. G (lineAt (tableOf s .lines) n))
                   (λ n h. ap (λ (b : Bool). freshly (tableOf s) parent (lineAt (tableOf s .lines) n) && b) (here n))
@@ -702,4 +702,4 @@ module _ (s : List ℕ) (c e v m : ℕ) (sets : Sets) (given : NodeGiven s c e v
                   ∙ sym (any-below G (tableOf s .lines))
                 where
                   G : Line → Bool
-                  G l = freshly (tableOf s) parent l && not (holds sameRole (tableOf s .rows) (induced (tableOf s) (childOf parent own)) l)
+                  G l = freshly (tableOf s) parent l && not (holds (roleOrder (tableOf s)) (tableOf s .rows) (induced (tableOf s) (childOf parent own)) l)

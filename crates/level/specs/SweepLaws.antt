@@ -17,8 +17,7 @@ use native.Mathlib.Nat.{add-zero}
 use lib.Bits.{bitAnd}
 use lib.ListN.{length, getD, take, set, length-set}
 use lib.Seq.{take-set-le, getD-set-same, set-getD, set-set}
-use Rattle.el.specs.Description.{sameRole}
-use Rattle.el.specs.Table.{Table}
+use Rattle.el.specs.Table.{Table, roleOrder}
 use Rattle.el.specs.Walk.{Node, dead}
 use Rattle.table.specs.Reading.{tableOf}
 use Rattle.node.specs.Node.{nodeOf, Clean}
@@ -46,7 +45,7 @@ child-sibling s start turning leaving fresh few c e v m k a x given =
       room = length-set a (k - 1) x ∙ given .room;
       some = given .some;
       level = subst (λ (p : Node). Levels (tableOf s) p m (levelOf turning leaving fresh few)) (sym same) (given .level);
-      live = ap (dead sameRole (tableOf s)) same ∙ given .live;
+      live = ap (dead (roleOrder (tableOf s)) (tableOf s)) same ∙ given .live;
     }
   where
     same : take (k - 1) (set a (k - 1) x) ≡ take (k - 1) a
@@ -73,18 +72,18 @@ module _ {s start : List ℕ} {turning leaving : ℕ} {fresh : List ℕ} {few c 
   pub child-place : (0 < k) × (k ≤ 12)
   child-place = (given .some, node-few s c e v m (setsOf a k) (given .node))
 
-  pub child-turns : (bitAnd (ownOf (setsOf a k)) turning ≡ 0 → ⊥) → true ≡ dead sameRole (tableOf s) (take k a)
+  pub child-turns : (bitAnd (ownOf (setsOf a k)) turning ≡ 0 → ⊥) → true ≡ dead (roleOrder (tableOf s)) (tableOf s) (take k a)
   unfolding nodeOf
   child-turns = dead-cycle s c e v m (setsOf a k) (given .node) (given .some) (given .room) start (given .starts) (given .start-room) (levelOf turning leaving fresh few) (given .level) (given .live)
 
-  pub child-leaves : bitAnd (ownOf (setsOf a k)) turning ≡ 0 → (bitAnd (ownOf (setsOf a k)) leaving ≡ 0 → ⊥) → false ≡ dead sameRole (tableOf s) (take k a)
+  pub child-leaves : bitAnd (ownOf (setsOf a k)) turning ≡ 0 → (bitAnd (ownOf (setsOf a k)) leaving ≡ 0 → ⊥) → false ≡ dead (roleOrder (tableOf s)) (tableOf s) (take k a)
   unfolding nodeOf
   child-leaves = dead-open s c e v m (setsOf a k) (given .node) (given .some) (given .room) start (given .starts) (given .start-room) (levelOf turning leaving fresh few) (given .level) (given .live)
 
   pub child-lines : bitAnd (ownOf (setsOf a k)) turning ≡ 0 → bitAnd (ownOf (setsOf a k)) leaving ≡ 0 → FreshGiven s start c e v fresh few a
   child-lines = below-given s c e v m (setsOf a k) (given .node) (given .some) (given .room) start (given .starts) (given .start-room) (levelOf turning leaving fresh few) (given .level) (given .live)
 
-  pub child-fails : bitAnd (ownOf (setsOf a k)) turning ≡ 0 → bitAnd (ownOf (setsOf a k)) leaving ≡ 0 → freshFails s a fresh few ≡ dead sameRole (tableOf s) (take k a)
+  pub child-fails : bitAnd (ownOf (setsOf a k)) turning ≡ 0 → bitAnd (ownOf (setsOf a k)) leaving ≡ 0 → freshFails s a fresh few ≡ dead (roleOrder (tableOf s)) (tableOf s) (take k a)
   unfolding nodeOf
   child-fails = dead-fresh s c e v m (setsOf a k) (given .node) (given .some) (given .room) start (given .starts) (given .start-room) (levelOf turning leaving fresh few) (given .level) (given .live)
 
@@ -110,15 +109,15 @@ module _ {s start : List ℕ} {turning leaving : ℕ} {fresh : List ℕ} {few c 
     sibling-is : take k here ≡ take k (siblingOf (setsOf a k) x)
     sibling-is = ap (take k) (at .is ∙ ap (set a (k - 1)) (sym x-is))
 
-    answer-is : (b r : Bool) → b ≡ dead sameRole (tableOf s) (take k here) → b ≡ r → deadSibling (tableOf s) (setsOf a k) x ≡ r
-    answer-is b r e f = unfold deadSibling in (ap (dead sameRole (tableOf s)) (sym sibling-is) ∙ sym e ∙ f)
+    answer-is : (b r : Bool) → b ≡ dead (roleOrder (tableOf s)) (tableOf s) (take k here) → b ≡ r → deadSibling (tableOf s) (setsOf a k) x ≡ r
+    answer-is b r e f = unfold deadSibling in (ap (dead (roleOrder (tableOf s)) (tableOf s)) (sym sibling-is) ∙ sym e ∙ f)
 
-    pub swept-live : {most : ℕ} {b : Bool} → passed < most → b ≡ dead sameRole (tableOf s) (take k here) → b ≡ false
+    pub swept-live : {most : ℕ} {b : Bool} → passed < most → b ≡ dead (roleOrder (tableOf s)) (tableOf s) (take k here) → b ≡ false
         → Sweeps (tableOf s) (setsOf a k) last most (record { end = Live; passed = passed + 1; at = x })
     swept-live {most} {b} h e f =
         record { few = omega arith; within = x-within; ends = (passed, refl, x-is, at .dead-all, answer-is b false e f) }
 
-    pub swept-over : {most : ℕ} {b : Bool} → passed < most → b ≡ dead sameRole (tableOf s) (take k here) → b ≡ true → last ≤ x
+    pub swept-over : {most : ℕ} {b : Bool} → passed < most → b ≡ dead (roleOrder (tableOf s)) (tableOf s) (take k here) → b ≡ true → last ≤ x
         → Sweeps (tableOf s) (setsOf a k) last most (record { end = Over; passed = passed + 1; at = x })
     swept-over {most} {b} h e f l =
         record { few = omega arith; within = x-within; ends = (passed, refl, x-is, at .dead-all, answer-is b true e f, l) }
@@ -127,7 +126,7 @@ module _ {s start : List ℕ} {turning leaving : ℕ} {fresh : List ℕ} {few c 
     swept-spent h l =
         record { few = h; within = x-within; ends = (omega arith, x-is, at .dead-all) }
 
-    pub at-next : {b : Bool} → b ≡ dead sameRole (tableOf s) (take k here) → b ≡ true → x < last → At (tableOf s) a k last (passed + 1) (set here (k - 1) (x + 1))
+    pub at-next : {b : Bool} → b ≡ dead (roleOrder (tableOf s)) (tableOf s) (take k here) → b ≡ true → x < last → At (tableOf s) a k last (passed + 1) (set here (k - 1) (x + 1))
     at-next {b} e f l =
         record {
           is = ap (λ (z : List ℕ). set z (k - 1) (x + 1)) (at .is) ∙ set-set a (k - 1) (ownOf (setsOf a k) + passed) (x + 1)

@@ -5,7 +5,7 @@ ghost use mathlib.Core.Bool.{Bool, _&&_, _||_};
 ghost use Prim.Native.Nat.{ℕ, _+_, _-_, _≤_, _<_};
 ghost use lib.Dec.{eqb};
 ghost use lib.ListN.{length, take};
-ghost use Rattle.el.specs.Description.{sameRole};
+ghost use Rattle.el.specs.Table.{roleOrder};
 ghost use Rattle.el.specs.Walk.{dead};
 ghost use Rattle.table.specs.Reading.{tableOf};
 ghost use Rattle.node.specs.Node.{Masks, NodeGiven, Prepares};
@@ -178,7 +178,7 @@ fn is_dead(
     set: &[u32],
 ) -> bool
     requires { ⌜ ChildGiven (now table) (now start) turning leaving (now fresh) few c e v m k (now set) ⌝ }
-    ensures { λ r. ⌜ r ≡ dead sameRole (tableOf (now (table .entry))) (take k (now (set .entry))) ⌝ }
+    ensures { λ r. ⌜ r ≡ dead (roleOrder (tableOf (now (table .entry)))) (tableOf (now (table .entry))) (take k (now (set .entry))) ⌝ }
 {
     let x = set[k - 1];
     if (x & turning) != 0 {

@@ -12,7 +12,7 @@ use native.Mathlib.Omega.{arith}
 use lib.Dec.{T, ltb}
 use lib.ListN.{length}
 use borrow.Author.Tests.{lt-ltb, ltb-true}
-use Rattle.table.specs.Reading.{byteAt, reading, isReadable}
+use Rattle.table.specs.Reading.{byteAt, reading, isReadable, headerOf}
 use Rattle.table.specs.Layout.{lineStart}
 use Rattle.table.specs.LayoutLaws.{line-inside}
 use Rattle.makrothel.specs.Answer.{hasLine, linePart}
@@ -20,7 +20,7 @@ use Rattle.makrothel.specs.C.{lineFound, lineSpan, spanned}
 use Rattle.makrothel.specs.Unique.{line-length}
 
 abbrev There : List ℕ → ℕ → Type 0
-There s n = T (isReadable (reading s)) × (n < byteAt s 9)
+There s n = T (isReadable (reading s)) × (n < headerOf s .m)
 
 -- what the line call for C hands back
 abbrev Told : List ℕ → ℕ → ℕ → ℕ → ℕ → Type 0
@@ -30,16 +30,16 @@ Told s n found start size =
 module _ (s : List ℕ) (n : ℕ) where
   has-line : hasLine s n ≡ true → There s n
   unfolding hasLine
-  has-line e = go (isReadable (reading s)) (ltb n (byteAt s 9)) refl e
+  has-line e = go (isReadable (reading s)) (ltb n (headerOf s .m)) refl e
     where
-      go : (x y : Bool) → ltb n (byteAt s 9) ≡ y → x && y ≡ true → T x × (n < byteAt s 9)
-      go true true f e = (tt, ltb-true n (byteAt s 9) f)
+      go : (x y : Bool) → ltb n (headerOf s .m) ≡ y → x && y ≡ true → T x × (n < headerOf s .m)
+      go true true f e = (tt, ltb-true n (headerOf s .m) f)
       go true false f e = absurd (let z : _≡_ {A = ℕ} 0 1 = cc in let w : ⊥ = omega arith in w)
       go false y f e = absurd (let z : _≡_ {A = ℕ} 0 1 = cc in let w : ⊥ = omega arith in w)
 
   there-has : There s n → hasLine s n ≡ true
   unfolding hasLine
-  there-has h = rw (lt-ltb n (byteAt s 9) (h .1)) (go (isReadable (reading s)) (h .0))
+  there-has h = rw (lt-ltb n (headerOf s .m) (h .1)) (go (isReadable (reading s)) (h .0))
     where
       go : (x : Bool) → T x → x && true ≡ true
       go true t = refl

@@ -20,10 +20,10 @@ use lib.Dec.{T, ltb}
 use lib.ListN.{length, take, drop}
 use borrow.Author.Tests.{lt-ltb, le-ltb}
 use denote.Ref.{RefT, now}
+use Rattle.el.specs.Table.{roleOrder}
 use Rattle.table.specs.declared.Verdict.the-variants.{Refused, Readable}
-use Rattle.el.specs.Description.{sameRole}
 use Rattle.el.specs.Walk.{outcome}
-use Rattle.table.specs.Reading.{byteAt, Header, Reading, refusal, readable, reading, theTable, isReadable, tableOf}
+use Rattle.table.specs.Reading.{byteAt, Header, Reading, refusal, readable, reading, theTable, isReadable, tableOf, headerOf}
 use Rattle.table.specs.Bytes.{IsTable}
 use Rattle.table.specs.Step.{verdictOf}
 use Rattle.table.specs.Layout.{lineStart}
@@ -52,13 +52,13 @@ module _ (s : List ℕ) where
       go (refusal m k) q = (let a : n ≡ m = cc in let b : p ≡ k = cc in rw (a, b))
       go (readable h t) q = absurd (refused-readable n p (sym q))
 
-  pub read-readable : (c r v e m : ℕ) → c ≡ byteAt s 5 → r ≡ byteAt s 6 → v ≡ byteAt s 7 → e ≡ byteAt s 8 → m ≡ byteAt s 9 → verdictOf (reading s) ≡ Readable
+  pub read-readable : (c r v e m : ℕ) → c ≡ headerOf s .c → r ≡ headerOf s .r → v ≡ headerOf s .v → e ≡ headerOf s .e → m ≡ headerOf s .m → verdictOf (reading s) ≡ Readable
       → record { number = 0; place = 0; constants = c; roles = r; variables = v; restrictions = e; lines = m } ≡ readAnswer (reading s)
   unfolding verdictOf readAnswer
   read-readable c r v e m c= r= v= e= m= q = rw (c=, r=, v=, e=, m=) (go (reading s) refl q)
     where
       go : (x : Reading) → reading s ≡ x → verdictOf x ≡ Readable
-          → record { number = 0; place = 0; constants = byteAt s 5; roles = byteAt s 6; variables = byteAt s 7; restrictions = byteAt s 8; lines = byteAt s 9 } ≡ readAnswer x
+          → record { number = 0; place = 0; constants = headerOf s .c; roles = headerOf s .r; variables = headerOf s .v; restrictions = headerOf s .e; lines = headerOf s .m } ≡ readAnswer x
       go (refusal n p) e q = absurd (refused-readable n p q)
       go (readable h t) e q = ap (λ (x : Header). readAnswer (readable x t)) (sym (readable-header s h t e .0))
 
@@ -74,28 +74,28 @@ module _ (s : List ℕ) where
   unfolding verdictOf
   line-refused k n p q = by-test k false (unfold hasLine in go (reading s) q)
     where
-      go : (x : Reading) → verdictOf x ≡ Refused n p → isReadable x && ltb k (byteAt s 9) ≡ false
+      go : (x : Reading) → verdictOf x ≡ Refused n p → isReadable x && ltb k (headerOf s .m) ≡ false
       go (refusal m i) q = refl
       go (readable h t) q = absurd (refused-readable n p (sym q))
 
   module _ (ok : verdictOf (reading s) ≡ Readable) (k : ℕ) where
-    tested : (b : Bool) → ltb k (byteAt s 9) ≡ b → hasLine s k ≡ b
+    tested : (b : Bool) → ltb k (headerOf s .m) ≡ b → hasLine s k ≡ b
     unfolding hasLine
     tested b e = go (isReadable (reading s)) (readable-is s ok)
       where
-        go : (x : Bool) → T x → x && ltb k (byteAt s 9) ≡ b
+        go : (x : Bool) → T x → x && ltb k (headerOf s .m) ≡ b
         go true t = e
         go false t = absurd t
 
-    pub line-over : (m : ℕ) → m ≡ byteAt s 9 → m ≤ k → IsLine k [] 0
-    line-over m e h = by-test k false (tested false (le-ltb k (byteAt s 9) (omega arith)))
+    pub line-over : (m : ℕ) → m ≡ headerOf s .m → m ≤ k → IsLine k [] 0
+    line-over m e h = by-test k false (tested false (le-ltb k (headerOf s .m) (omega arith)))
 
-    pub line-room : (at : ℕ) → k < byteAt s 9 → at ≡ lineStart s k → at + byteAt s at + 2 ≤ length s
+    pub line-room : (at : ℕ) → k < headerOf s .m → at ≡ lineStart s k → at + byteAt s at + 2 ≤ length s
     line-room at h a = line-inside s (readable-is s ok) k at h a
 
-    pub line-there : (at p : ℕ) → k < byteAt s 9 → at ≡ lineStart s k → p ≡ byteAt s at → IsLine k (take (at + p + 2 - at) (drop at s)) at
+    pub line-there : (at p : ℕ) → k < headerOf s .m → at ≡ lineStart s k → p ≡ byteAt s at → IsLine k (take (at + p + 2 - at) (drop at s)) at
     line-there at p h a e =
-        let there = by-test k true (tested true (lt-ltb k (byteAt s 9) h)) in (
+        let there = by-test k true (tested true (lt-ltb k (headerOf s .m) h)) in (
           ap (λ (i : ℕ). take i (drop at s)) (let z : at + p + 2 - at ≡ byteAt s at + 2 = omega arith in z)
               ∙ ap (λ (i : ℕ). take (byteAt s i + 2) (drop i s)) a
               ∙ there .0,
@@ -145,13 +145,13 @@ module _ (s : List ℕ) (b : ℕ) (out : List ℕ) where
       go (refusal n p) e ok = absurd ok
       go (readable h t) e ok = is-table s h t e
 
-  variables : verdictOf (reading s) ≡ Readable → tableOf s .variables ≡ byteAt s 7
+  variables : verdictOf (reading s) ≡ Readable → tableOf s .variables ≡ headerOf s .v
   variables q = layout s (readable-is s q) .variables
 
-  pub solve-short : (v : ℕ) → v ≡ byteAt s 7 → verdictOf (reading s) ≡ Readable → length out < 4 * v → refusedAs 7 (4 * v) out ≡ answer s b out
+  pub solve-short : (v : ℕ) → v ≡ headerOf s .v → verdictOf (reading s) ≡ Readable → length out < 4 * v → refusedAs 7 (4 * v) out ≡ answer s b out
   solve-short v e q l =
       let h : tableOf s .variables ≡ v = variables q ∙ sym e in
       sym (answer-short s b out (tableOf s) (the-table q) (omega arith) ∙ ap (λ (k : ℕ). refusedAs 7 (4 * k) out) h)
 
-  pub solve-walked : (v : ℕ) → v ≡ byteAt s 7 → verdictOf (reading s) ≡ Readable → 4 * v ≤ length out → outcomeAs (outcome sameRole (tableOf s) b) out ≡ answer s b out
+  pub solve-walked : (v : ℕ) → v ≡ headerOf s .v → verdictOf (reading s) ≡ Readable → 4 * v ≤ length out → outcomeAs (outcome (roleOrder (tableOf s)) (tableOf s) b) out ≡ answer s b out
   solve-walked v e q l = let h : tableOf s .variables ≡ v = variables q ∙ sym e in sym (answer-outcome s (tableOf s) (the-table q) b out (omega arith))

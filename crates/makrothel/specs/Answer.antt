@@ -12,7 +12,7 @@ use Prim.Native.Nat.{ℕ, _+_}
 use lib.Dec.{ltb}
 use lib.ListN.{take, drop}
 use denote.Ref.{RefT}
-use Rattle.table.specs.Reading.{byteAt, Reading, refusal, readable, reading, isReadable}
+use Rattle.table.specs.Reading.{byteAt, Reading, refusal, readable, reading, isReadable, headerOf}
 use Rattle.table.specs.Layout.{lineStart}
 use Rattle.makrothel.specs.declared.ReadAnswer.{ReadAnswer}
 
@@ -22,7 +22,7 @@ readAnswer (refusal n p) = record { number = n; place = p; constants = 0; roles 
 readAnswer (readable h t) = record { number = 0; place = 0; constants = h .c; roles = h .r; variables = h .v; restrictions = h .e; lines = h .m }
 
 unfoldable pub hasLine : List ℕ → ℕ → Bool
-hasLine s n = isReadable (reading s) && ltb n (byteAt s 9)
+hasLine s n = isReadable (reading s) && ltb n (headerOf s .m)
 
 -- "returns that line as a part of the caller's own table, from its left count to its right code, p + 2 bytes.
 -- An unreadable table or a line number of m or more gives an empty part."

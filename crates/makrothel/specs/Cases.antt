@@ -14,7 +14,7 @@ use lib.Dec.{T}
 use lib.ListN.{length}
 use Rattle.el.specs.Test.{anyBelow, allBelow, anyOf, everyOf, bit}
 use Rattle.el.specs.Description.{sameRole}
-use Rattle.el.specs.Table.{Table, rowAt, atoms, declared}
+use Rattle.el.specs.Table.{Table, rowAt, atoms, declared, roleOrder}
 use Rattle.el.specs.Meaning.{holds}
 use Rattle.el.specs.Assignment.{setOf, depends, path, reaches, acyclic, atomUnder, conjoin, setUnder, inducedTo, induced}
 use Rattle.el.specs.Walk.{chosen, lineVariables, settled, ready, fails, dead, full, ends, inTurn, subtree, nodes, upToFirst, firstOf, examined, count, Outcome, solved, nothing, budget, outcome}
@@ -133,8 +133,8 @@ Every P (k ∷ ks) = P k × Every P ks
 
 -- what the definitions compute of a case
 abbrev Comes : Budget → Table → Outcome → Type 0
-Comes (atLeast n) t o = (N t ≡ n) × (outcome sameRole t n ≡ o)
-Comes (exactly n) t o = outcome sameRole t n ≡ o
+Comes (atLeast n) t o = (N t ≡ n) × (outcome (roleOrder t) t n ≡ o)
+Comes (exactly n) t o = outcome (roleOrder t) t n ≡ o
 
 abbrev Computes : Case → Type 0
 Computes k =
@@ -142,9 +142,9 @@ Computes k =
     × Comes (k .budgets) (tableOf (k .bytes)) o
     × ((out : List ℕ) → outcomeAs o out ≡ record { number = k .number; count = k .count; place = 0; output = written (k .sets) out })
 
-comes : (t : Table) → T (declared t) → (g : Budget) (b : ℕ) (o : Outcome) → Under g b → Comes g t o → outcome sameRole t b ≡ o
-comes t d (atLeast n) b o u c = let e : N t ≡ n = c .0 in more-budget sameRole t d n b (omega arith) u ∙ c .1
-comes t d (exactly n) b o u c = ap (outcome sameRole t) u ∙ c
+comes : (t : Table) → T (declared t) → (g : Budget) (b : ℕ) (o : Outcome) → Under g b → Comes g t o → outcome (roleOrder t) t b ≡ o
+comes t d (atLeast n) b o u c = let e : N t ≡ n = c .0 in more-budget (roleOrder t) t d n b (omega arith) u ∙ c .1
+comes t d (exactly n) b o u c = ap (outcome (roleOrder t) t) u ∙ c
 
 answers : (k : Case) → Computes k → Answers k
 unfolding Answers

@@ -19,8 +19,7 @@ use native.Mathlib.Decide.{decLe}
 use lib.Dec.{T}
 use lib.ListN.{length}
 use borrow.Author.Tests.{le-ltb}
-use Rattle.el.specs.Description.{sameRole}
-use Rattle.el.specs.Table.{Table, declared}
+use Rattle.el.specs.Table.{Table, declared, roleOrder}
 use Rattle.el.specs.Assignment.{Assignment, IsAssignment, Solves, solves, Before}
 use Rattle.el.specs.Walk.{Outcome, solved, nothing, budget, outcome}
 use Rattle.el.specs.CountingLaws.{counting-order}
@@ -61,18 +60,18 @@ module _ (s : List ℕ) (t : Table) (is : IsTable s t) where
       (layout s (subst (λ (r : Reading). T (isReadable r)) (sym (table-read s t is)) tt) .all-declared)
 
 module _ (s : List ℕ) (t : Table) (is : IsTable s t) (b : ℕ) (out : List ℕ) (room : 4 * t .variables ≤ length out) where
-  pub answer-outcome : answer s b out ≡ outcomeAs (outcome sameRole t b) out
+  pub answer-outcome : answer s b out ≡ outcomeAs (outcome (roleOrder t) t b) out
   unfolding answer tableAs
   answer-outcome = ap (λ (r : Reading). readingAs r b out) (table-read s t is) ∙ rw (le-ltb (length out) (4 * t .variables) room, tableAs)
 
   -- BUDGET
   pub demand-2-budget : b < N t → answer s b out ≡ record { number = 9; count = b; place = 0; output = out }
-  demand-2-budget over = answer-outcome ∙ ap (λ (o : Outcome). outcomeAs o out) (outcome-beyond sameRole t (known s t is) b over)
+  demand-2-budget over = answer-outcome ∙ ap (λ (o : Outcome). outcomeAs o out) (outcome-beyond (roleOrder t) t (known s t is) b over)
 
   -- "any readable table with budget 0 and enough room gives 9, count 0"
   pub demand-2-no-budget : b ≡ 0 → answer s b out ≡ record { number = 9; count = 0; place = 0; output = out }
   demand-2-no-budget z =
-      let some : 0 < N t = count-some sameRole t in
+      let some : 0 < N t = count-some (roleOrder t) t in
       demand-2-budget (omega arith) ∙ ap (λ (k : ℕ). record { number = 9; count = k; place = 0; output = out }) z
 
   -- the two answers within the budget
@@ -83,16 +82,16 @@ module _ (s : List ℕ) (t : Table) (is : IsTable s t) (b : ℕ) (out : List ℕ
   None = NoneSolves t × (answer s b out ≡ record { number = 8; count = N t; place = 0; output = out })
 
   pub within : N t ≤ b → Found ⊎ None
-  within l = go (outcome sameRole t b) (outcome-says sameRole t (known s t is) b) answer-outcome
+  within l = go (outcome (roleOrder t) t b) (outcome-says (roleOrder t) t (known s t is) b) answer-outcome
     where
-      bool : (m : Assignment) → Solves sameRole t m → T (solves sameRole t m)
-      bool m = solves-means sameRole t (known s t is) m .1
+      bool : (m : Assignment) → Solves (roleOrder t) t m → T (solves (roleOrder t) t m)
+      bool m = solves-means (roleOrder t) t (known s t is) m .1
 
-      go : (o : Outcome) → OutcomeSays sameRole t (known s t is) b o → answer s b out ≡ outcomeAs o out → Found ⊎ None
+      go : (o : Outcome) → OutcomeSays (roleOrder t) t (known s t is) b o → answer s b out ≡ outcomeAs o out → Found ⊎ None
       go (solved n a) w e =
           inl (
             a,
-            (unfold FirstSolving in (w .2 .0, solves-means sameRole t (known s t is) a .0 (w .2 .1), λ m i g l. w .2 .2 m i (bool m g) l)),
+            (unfold FirstSolving in (w .2 .0, solves-means (roleOrder t) t (known s t is) a .0 (w .2 .1), λ m i g l. w .2 .2 m i (bool m g) l)),
             e ∙ ap (λ (k : ℕ). record { number = 0; count = k; place = 0; output = written a out }) (w .0),
           )
       go (nothing n) w e =

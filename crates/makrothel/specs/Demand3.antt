@@ -18,8 +18,8 @@ use lib.Dec.{T}
 use lib.ListN.{length, take, drop}
 use lib.Seq.{take-at}
 use Rattle.el.specs.Description.{sameRole}
-use Rattle.el.specs.OrderLaws.{sameRole-refl, sameRole-trans}
-use Rattle.el.specs.Table.{Table, declared}
+use Rattle.el.specs.OrderLaws.{roleOrder-refl, roleOrder-trans}
+use Rattle.el.specs.Table.{Table, declared, roleOrder}
 use Rattle.el.specs.Meaning.{Substitution, makes}
 use Rattle.el.specs.Assignment.{Assignment, IsAssignment, Solves, induced}
 use Rattle.el.specs.Walk.{Outcome, solved, nothing, budget, outcome}
@@ -74,29 +74,29 @@ known-table s t i = subst (λ (u : Table). T (declared u)) (table-is s t i) (kno
 
 module _ (s : List ℕ) (b : ℕ) (out : List ℕ) where
   -- NONE: NO SUBSTITUTION, OF ANY DEPTH AND OVER ANY NAMES, MAKES EVERY LINE TRUE
-  pub demand-3-none : answer s b out .number ≡ 8 → (γ : Substitution) → T (makes sameRole (tableOf s) γ) → ⊥
+  pub demand-3-none : answer s b out .number ≡ 8 → (γ : Substitution) → T (makes (roleOrder (tableOf s)) (tableOf s) γ) → ⊥
   demand-3-none e γ m =
       let w = walked s b out (inr e) in
       let f = demand-2-none-exactly s (w .table) (w .is) b out (w .room) .0 e in
-      let γ-makes : T (makes sameRole (w .table) γ) = subst (λ (u : Table). T (makes sameRole u γ)) (sym (table-is s (w .table) (w .is))) m in
-      let l = locality sameRole sameRole-refl sameRole-trans (w .table) (known s (w .table) (w .is)) γ γ-makes in
+      let γ-makes : T (makes (roleOrder (w .table)) (w .table) γ) = subst (λ (u : Table). T (makes (roleOrder u) u γ)) (sym (table-is s (w .table) (w .is))) m in
+      let l = locality (roleOrder (w .table)) (roleOrder-refl (w .table)) (roleOrder-trans (w .table)) (w .table) (known s (w .table) (w .is)) γ γ-makes in
       nowhere (w .table) (f .1) (l .0) (l .1) (l .3)
     where
-      nowhere : (t : Table) → NoneSolves t → (a : Assignment) → IsAssignment t a → Solves sameRole t a → ⊥
+      nowhere : (t : Table) → NoneSolves t → (a : Assignment) → IsAssignment t a → Solves (roleOrder t) t a → ⊥
       nowhere t n = unfold NoneSolves in n
 
   -- SOLVED: SOME SUBSTITUTION DOES, THE ONE THAT THE REPORTED ASSIGNMENT INDUCES
-  pub demand-3-solved : answer s b out .number ≡ 0 → (γ : Substitution) × T (makes sameRole (tableOf s) γ)
+  pub demand-3-solved : answer s b out .number ≡ 0 → (γ : Substitution) × T (makes (roleOrder (tableOf s)) (tableOf s) γ)
   demand-3-solved e =
       let w = walked s b out (inl e) in
       let f = demand-2-solved-exactly s (w .table) (w .is) b out (w .room) .0 e in
       let a : Assignment = f .1 .0 in (
         induced (w .table) a,
-        subst (λ (u : Table). T (makes sameRole u (induced (w .table) a))) (table-is s (w .table) (w .is))
-            (solving-substitution sameRole (w .table) a (solution (w .table) a (f .1 .1))),
+        subst (λ (u : Table). T (makes (roleOrder u) u (induced (w .table) a))) (table-is s (w .table) (w .is))
+            (solving-substitution (roleOrder (w .table)) (w .table) a (solution (w .table) a (f .1 .1))),
       )
     where
-      solution : (t : Table) (a : Assignment) → FirstSolving t a → Solves sameRole t a
+      solution : (t : Table) (a : Assignment) → FirstSolving t a → Solves (roleOrder t) t a
       solution t a g = unfold FirstSolving in g .1
 
 ----------------------------------------------------------------------------------------------------
@@ -108,7 +108,7 @@ module _ (s u : List ℕ) (grown : Grown s u) (b c : ℕ) (out more : List ℕ) 
   demand-3-grown e f =
       let w = walked s b out (inr e) in
       let g = demand-3-solved u c more f in
-      demand-3-none s b out e (g .0) (growth-back sameRole (tableOf s) (tableOf u) (known-table s (w .table) (w .is)) (grown-grows s u grown) (g .0) (g .1))
+      demand-3-none s b out e (g .0) (growth-back (roleOrder (tableOf s)) (tableOf s) (tableOf u) (known-table s (w .table) (w .is)) (grown-grows s u grown) (g .0) (g .1))
 
   -- NO GROWTH WITHOUT NEW LINES OF A "SOLVED" TABLE IS EVER "NONE"
   pub demand-3-widened : SameLines s u → answer s b out .number ≡ 0 → answer u c more .number ≡ 8 → ⊥
@@ -116,7 +116,7 @@ module _ (s u : List ℕ) (grown : Grown s u) (b c : ℕ) (out more : List ℕ) 
       let w = walked s b out (inl e) in
       let g = demand-3-solved s b out e in
       demand-3-none u c more f (g .0)
-      (growth-same sameRole (tableOf s) (tableOf u) (known-table s (w .table) (w .is)) (grown-grows s u grown) (grown-lines s u grown same) (g .0) (g .1))
+      (growth-same (roleOrder (tableOf s)) (tableOf s) (tableOf u) (known-table s (w .table) (w .is)) (grown-grows s u grown) (grown-lines s u grown same) (g .0) (g .1))
 
 ----------------------------------------------------------------------------------------------------
 -- A larger budget
@@ -149,7 +149,7 @@ module _ (s : List ℕ) (b c : ℕ) (out more : List ℕ) where
       → SameAnswer s (answer s b out) (answer s c more)
   demand-3-budget w l r =
       subst (λ (x : Answered). SameAnswer s x (answer s c more)) (sym first)
-      (subst (SameAnswer s (outcomeAs (outcome sameRole t b) out)) (sym second) (same-outcome t here (outcome sameRole t b) sized))
+      (subst (SameAnswer s (outcomeAs (outcome (roleOrder t) t b) out)) (sym second) (same-outcome t here (outcome (roleOrder t) t b) sized))
     where
       k : Walked s out
       k = walked s b out w
@@ -163,22 +163,22 @@ module _ (s : List ℕ) (b c : ℕ) (out more : List ℕ) where
       known-t : T (declared t)
       known-t = known s t (k .is)
 
-      first : answer s b out ≡ outcomeAs (outcome sameRole t b) out
+      first : answer s b out ≡ outcomeAs (outcome (roleOrder t) t b) out
       first = answer-outcome s t (k .is) b out (k .room)
 
       within : (answer s b out .number ≡ 0) ⊎ (answer s b out .number ≡ 8) → N t ≤ b
       within (inl e) = demand-2-solved-exactly s t (k .is) b out (k .room) .0 e .0
       within (inr e) = demand-2-none-exactly s t (k .is) b out (k .room) .0 e .0
 
-      second : answer s c more ≡ outcomeAs (outcome sameRole t b) more
+      second : answer s c more ≡ outcomeAs (outcome (roleOrder t) t b) more
       second =
           answer-outcome s t (k .is) c more (subst (λ (u : Table). 4 * u .variables ≤ length more) (sym here) r)
-          ∙ ap (λ (o : Outcome). outcomeAs o more) (more-budget sameRole t known-t b c (within w) l)
+          ∙ ap (λ (o : Outcome). outcomeAs o more) (more-budget (roleOrder t) t known-t b c (within w) l)
 
-      sized : Sized t (outcome sameRole t b)
-      sized = go (outcome sameRole t b) (outcome-says sameRole t known-t b)
+      sized : Sized t (outcome (roleOrder t) t b)
+      sized = go (outcome (roleOrder t) t b) (outcome-says (roleOrder t) t known-t b)
         where
-          go : (o : Outcome) → OutcomeSays sameRole t known-t b o → Sized t o
+          go : (o : Outcome) → OutcomeSays (roleOrder t) t known-t b o → Sized t o
           go (solved n a) q = unfold IsAssignment in q .2 .0 .0
           go (nothing n) q = tt
           go (budget n) q = tt

@@ -9,13 +9,13 @@ use mathlib.Core.List.{List, _++_}
 use Prim.Native.Nat.{ℕ, _+_, _*_, _≤_}
 use lib.Dec.{T}
 use lib.ListN.{take, drop}
-use Rattle.table.specs.Reading.{byteAt, reading, isReadable}
+use Rattle.table.specs.Reading.{byteAt, reading, isReadable, headerOf}
 
 unfoldable pub rowBytes : List ℕ → List ℕ
-rowBytes s = take (2 * byteAt s 8) (drop 10 s)
+rowBytes s = take (2 * headerOf s .e) (drop 10 s)
 
 unfoldable pub lineBytes : List ℕ → List ℕ
-lineBytes s = drop (10 + 2 * byteAt s 8) s
+lineBytes s = drop (10 + 2 * headerOf s .e) s
 
 -- "One table grows from another if both have the same version, each of its counts c, r, v, e, m is at least the other's, and
 -- the other's rows and lines stand first among its own, in order and with the same bytes."
@@ -24,14 +24,14 @@ pub record Grown (s u : List ℕ) : Type 0 where
   pub readable-after : T (isReadable (reading u))
   pub version-low : byteAt s 3 ≡ byteAt u 3
   pub version-high : byteAt s 4 ≡ byteAt u 4
-  pub constants : byteAt s 5 ≤ byteAt u 5
-  pub roles : byteAt s 6 ≤ byteAt u 6
-  pub variables : byteAt s 7 ≤ byteAt u 7
-  pub restrictions : byteAt s 8 ≤ byteAt u 8
-  pub lines : byteAt s 9 ≤ byteAt u 9
+  pub constants : headerOf s .c ≤ headerOf u .c
+  pub roles : headerOf s .r ≤ headerOf u .r
+  pub variables : headerOf s .v ≤ headerOf u .v
+  pub restrictions : headerOf s .e ≤ headerOf u .e
+  pub lines : headerOf s .m ≤ headerOf u .m
   pub rows-first : (more : List ℕ) × (rowBytes u ≡ rowBytes s ++ more)
   pub lines-first : (more : List ℕ) × (lineBytes u ≡ lineBytes s ++ more)
 
 -- "no growth without new lines"
 unfoldable pub SameLines : List ℕ → List ℕ → Type 0
-SameLines s u = byteAt s 9 ≡ byteAt u 9
+SameLines s u = headerOf s .m ≡ headerOf u .m

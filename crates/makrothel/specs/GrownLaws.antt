@@ -15,7 +15,7 @@ use Rattle.el.specs.Growth.{Grows}
 use Rattle.table.specs.declared.Kind.{Kind}
 use Rattle.table.specs.declared.Kind.the-variants.{Top, Constant, Restriction, Variable, Other}
 use Rattle.table.specs.Code.{kindOf, fillerOfKind, fillerOf, entryOfKind, entryOf}
-use Rattle.table.specs.Reading.{byteAt, tableOf}
+use Rattle.table.specs.Reading.{byteAt, tableOf, headerOf}
 use Rattle.table.specs.Layout.{lineAt, lineStart, Layout}
 use Rattle.table.specs.CodeLaws.{within-some}
 use Rattle.table.specs.LayoutLaws.{layout}
@@ -58,26 +58,26 @@ module _ (s u : List ℕ) (grown : Grown s u) where
   there : Layout u (tableOf u)
   there = layout u (grown .readable-after)
 
-  row-byte : (i : ℕ) → i < 2 * byteAt s 8 → 10 + i < length s → byteAt u (10 + i) ≡ byteAt s (10 + i)
+  row-byte : (i : ℕ) → i < 2 * headerOf s .e → 10 + i < length s → byteAt u (10 + i) ≡ byteAt s (10 + i)
   row-byte i h l =
-      let wide : byteAt s 8 ≤ byteAt u 8 = grown .restrictions in
+      let wide : headerOf s .e ≤ headerOf u .e = grown .restrictions in
       let room : i < length (rowBytes s) = unfold rowBytes in simp (length-take, length-drop) (omega arith) in
       sym (in-rows u (omega arith)) ∙ ap (λ (x : List ℕ). getD x i 0) (grown .rows-first .1)
       ∙ List·getD-append (rowBytes s) (grown .rows-first .0) 0 i room ∙ in-rows s h
     where
-      in-rows : (x : List ℕ) → i < 2 * byteAt x 8 → getD (rowBytes x) i 0 ≡ byteAt x (10 + i)
-      in-rows x k = unfold rowBytes in (getD-take (2 * byteAt x 8) (drop 10 x) i 0 k ∙ getD-drop 10 x i 0)
+      in-rows : (x : List ℕ) → i < 2 * headerOf x .e → getD (rowBytes x) i 0 ≡ byteAt x (10 + i)
+      in-rows x k = unfold rowBytes in (getD-take (2 * headerOf x .e) (drop 10 x) i 0 k ∙ getD-drop 10 x i 0)
 
-  row-same : (k : ℕ) → k < byteAt s 8 → rowAt (tableOf u .rows) k ≡ rowAt (tableOf s .rows) k
+  row-same : (k : ℕ) → k < headerOf s .e → rowAt (tableOf u .rows) k ≡ rowAt (tableOf s .rows) k
   row-same k h =
-      let wide : byteAt s 8 ≤ byteAt u 8 = grown .restrictions in
+      let wide : headerOf s .e ≤ headerOf u .e = grown .restrictions in
       let long : 11 + 2 * k < length s = here .row-in k h in
       let first : byteAt u (10 + 2 * k) ≡ byteAt s (10 + 2 * k) = row-byte (2 * k) (omega arith) (omega arith) in
       let second : byteAt u (11 + 2 * k) ≡ byteAt s (11 + 2 * k) = shift k (row-byte (1 + 2 * k) (omega arith) (omega arith)) in
       ap₂ (λ (r : ℕ) (f : Filler). record { role = r; filler = f })
       (there .row-role k (omega arith) ∙ first ∙ sym (here .row-role k h))
-      (filler-code (byteAt u 5) (byteAt u 7) (byteAt s 5) (byteAt s 7) (byteAt s (11 + 2 * k)) (rowAt (tableOf u .rows) k .filler) (rowAt (tableOf s .rows) k .filler)
-      (subst (λ (b : ℕ). fillerOf (byteAt u 5) (byteAt u 7) b ≡ some (rowAt (tableOf u .rows) k .filler)) second (there .row-filler k (omega arith)))
+      (filler-code (headerOf u .c) (headerOf u .v) (headerOf s .c) (headerOf s .v) (byteAt s (11 + 2 * k)) (rowAt (tableOf u .rows) k .filler) (rowAt (tableOf s .rows) k .filler)
+      (subst (λ (b : ℕ). fillerOf (headerOf u .c) (headerOf u .v) b ≡ some (rowAt (tableOf u .rows) k .filler)) second (there .row-filler k (omega arith)))
       (here .row-filler k h))
     where
       shift : (k : ℕ) → byteAt u (10 + (1 + 2 * k)) ≡ byteAt s (10 + (1 + 2 * k)) → byteAt u (11 + 2 * k) ≡ byteAt s (11 + 2 * k)
@@ -92,68 +92,68 @@ module _ (s u : List ℕ) (grown : Grown s u) where
 
   rows-begin : tableOf u .rows ≡ tableOf s .rows ++ drop (length (tableOf s .rows)) (tableOf u .rows)
   rows-begin =
-      let a = here .rows in let b = there .rows in let wide : byteAt s 8 ≤ byteAt u 8 = grown .restrictions in
+      let a = here .rows in let b = there .rows in let wide : headerOf s .e ≤ headerOf u .e = grown .restrictions in
       begins (record { role = 0; filler = topF }) (tableOf s .rows) (tableOf u .rows) (omega arith) (λ i h. unfold rowAt in row-same i (omega arith))
 
   -- lines: where they begin, and their bytes
-  start-late : (n : ℕ) → 10 + 2 * byteAt s 8 ≤ lineStart s n
+  start-late : (n : ℕ) → 10 + 2 * headerOf s .e ≤ lineStart s n
   unfolding lineStart
   start-late zero = omega arith
-  start-late (suc n) = let h : 10 + 2 * byteAt s 8 ≤ lineStart s n = start-late n in omega arith
+  start-late (suc n) = let h : 10 + 2 * headerOf s .e ≤ lineStart s n = start-late n in omega arith
 
-  line-byte : (j k : ℕ) → 10 + 2 * byteAt s 8 ≤ j → j < length s → k + 2 * byteAt s 8 ≡ j + 2 * byteAt u 8 → byteAt u k ≡ byteAt s j
-  line-byte j k l h e = at (j - (10 + 2 * byteAt s 8)) (omega arith) (omega arith)
+  line-byte : (j k : ℕ) → 10 + 2 * headerOf s .e ≤ j → j < length s → k + 2 * headerOf s .e ≡ j + 2 * headerOf u .e → byteAt u k ≡ byteAt s j
+  line-byte j k l h e = at (j - (10 + 2 * headerOf s .e)) (omega arith) (omega arith)
     where
-      at : (i : ℕ) → k ≡ 10 + 2 * byteAt u 8 + i → j ≡ 10 + 2 * byteAt s 8 + i → byteAt u k ≡ byteAt s j
+      at : (i : ℕ) → k ≡ 10 + 2 * headerOf u .e + i → j ≡ 10 + 2 * headerOf s .e + i → byteAt u k ≡ byteAt s j
       at i p q =
           let room : i < length (lineBytes s) = unfold lineBytes in simp length-drop (omega arith) in
           ap (byteAt u) p ∙ sym (in-lines u) ∙ ap (λ (x : List ℕ). getD x i 0) (grown .lines-first .1)
           ∙ List·getD-append (lineBytes s) (grown .lines-first .0) 0 i room ∙ in-lines s ∙ sym (ap (byteAt s) q)
         where
-          in-lines : (x : List ℕ) → getD (lineBytes x) i 0 ≡ byteAt x (10 + 2 * byteAt x 8 + i)
-          in-lines x = unfold lineBytes in getD-drop (10 + 2 * byteAt x 8) x i 0
+          in-lines : (x : List ℕ) → getD (lineBytes x) i 0 ≡ byteAt x (10 + 2 * headerOf x .e + i)
+          in-lines x = unfold lineBytes in getD-drop (10 + 2 * headerOf x .e) x i 0
 
-  start-same : (n : ℕ) → n ≤ byteAt s 9 → lineStart u n + 2 * byteAt s 8 ≡ lineStart s n + 2 * byteAt u 8
+  start-same : (n : ℕ) → n ≤ headerOf s .m → lineStart u n + 2 * headerOf s .e ≡ lineStart s n + 2 * headerOf u .e
   unfolding lineStart
   start-same zero h = omega arith
   start-same (suc n) h =
-      let e : lineStart u n + 2 * byteAt s 8 ≡ lineStart s n + 2 * byteAt u 8 = start-same n (omega arith) in
+      let e : lineStart u n + 2 * headerOf s .e ≡ lineStart s n + 2 * headerOf u .e = start-same n (omega arith) in
       let i : lineStart s n + byteAt s (lineStart s n) + 2 ≤ length s = here .line-in n (omega arith) in
       let p : byteAt u (lineStart u n) ≡ byteAt s (lineStart s n) = line-byte (lineStart s n) (lineStart u n) (start-late n) (omega arith) e in
       omega arith
 
-  line-same : (n : ℕ) → n < byteAt s 9 → lineAt (tableOf u .lines) n ≡ lineAt (tableOf s .lines) n
+  line-same : (n : ℕ) → n < headerOf s .m → lineAt (tableOf u .lines) n ≡ lineAt (tableOf s .lines) n
   line-same n h =
-      let more : byteAt s 9 ≤ byteAt u 9 = grown .lines in
-      let e : lineStart u n + 2 * byteAt s 8 ≡ lineStart s n + 2 * byteAt u 8 = start-same n (omega arith) in
+      let more : headerOf s .m ≤ headerOf u .m = grown .lines in
+      let e : lineStart u n + 2 * headerOf s .e ≡ lineStart s n + 2 * headerOf u .e = start-same n (omega arith) in
       let i : lineStart s n + byteAt s (lineStart s n) + 2 ≤ length s = here .line-in n h in
-      let low : 10 + 2 * byteAt s 8 ≤ lineStart s n = start-late n in
+      let low : 10 + 2 * headerOf s .e ≤ lineStart s n = start-late n in
       let p : byteAt u (lineStart u n) ≡ byteAt s (lineStart s n) = line-byte (lineStart s n) (lineStart u n) low (omega arith) e in
       let a : length (lineAt (tableOf s .lines) n .left) ≡ byteAt s (lineStart s n) = here .line-left n h in
       let b : length (lineAt (tableOf u .lines) n .left) ≡ byteAt u (lineStart u n) = there .line-left n (omega arith) in
       ap₂ (λ (l : List Entry) (r : Entry). record { left = l; right = r })
       (ext-getD (constant 0) (lineAt (tableOf u .lines) n .left) (lineAt (tableOf s .lines) n .left) (omega arith)
-      (λ k l. entry-code (byteAt u 5) (byteAt u 8) (byteAt u 7) (byteAt s 5) (byteAt s 8) (byteAt s 7) (byteAt s (lineStart s n + 1 + k))
+      (λ k l. entry-code (headerOf u .c) (headerOf u .e) (headerOf u .v) (headerOf s .c) (headerOf s .e) (headerOf s .v) (byteAt s (lineStart s n + 1 + k))
       (getD (lineAt (tableOf u .lines) n .left) k (constant 0)) (getD (lineAt (tableOf s .lines) n .left) k (constant 0))
-      (subst (λ (x : ℕ). entryOf (byteAt u 5) (byteAt u 8) (byteAt u 7) x ≡ some (getD (lineAt (tableOf u .lines) n .left) k (constant 0)))
+      (subst (λ (x : ℕ). entryOf (headerOf u .c) (headerOf u .e) (headerOf u .v) x ≡ some (getD (lineAt (tableOf u .lines) n .left) k (constant 0)))
       (line-byte (lineStart s n + 1 + k) (lineStart u n + 1 + k) (omega arith) (omega arith) (omega arith)) (there .line-entry n k (omega arith) (omega arith)))
       (here .line-entry n k h (omega arith))))
-      (entry-code (byteAt u 5) (byteAt u 8) (byteAt u 7) (byteAt s 5) (byteAt s 8) (byteAt s 7) (byteAt s (lineStart s n + 1 + byteAt s (lineStart s n)))
+      (entry-code (headerOf u .c) (headerOf u .e) (headerOf u .v) (headerOf s .c) (headerOf s .e) (headerOf s .v) (byteAt s (lineStart s n + 1 + byteAt s (lineStart s n)))
       (lineAt (tableOf u .lines) n .right) (lineAt (tableOf s .lines) n .right)
-      (subst (λ (x : ℕ). entryOf (byteAt u 5) (byteAt u 8) (byteAt u 7) x ≡ some (lineAt (tableOf u .lines) n .right))
+      (subst (λ (x : ℕ). entryOf (headerOf u .c) (headerOf u .e) (headerOf u .v) x ≡ some (lineAt (tableOf u .lines) n .right))
       (line-byte (lineStart s n + 1 + byteAt s (lineStart s n)) (lineStart u n + 1 + byteAt u (lineStart u n)) (omega arith) (omega arith) (omega arith)) (there .line-right n (omega arith)))
       (here .line-right n h))
 
   lines-begin : tableOf u .lines ≡ tableOf s .lines ++ drop (length (tableOf s .lines)) (tableOf u .lines)
   lines-begin =
-      let a = here .lines in let b = there .lines in let more : byteAt s 9 ≤ byteAt u 9 = grown .lines in
+      let a = here .lines in let b = there .lines in let more : headerOf s .m ≤ headerOf u .m = grown .lines in
       begins (record { left = []; right = constant 0 }) (tableOf s .lines) (tableOf u .lines) (omega arith) (λ i h. unfold lineAt in line-same i (omega arith))
 
   -- GROWTH ON BYTES IS GROWTH ON TABLES
   pub grown-grows : Grows (tableOf s) (tableOf u)
   grown-grows =
       let a = here .constants in let b = there .constants in let c = here .roles in let d = there .roles in let e = here .variables in let f = there .variables in
-      let g : byteAt s 5 ≤ byteAt u 5 = grown .constants in let h : byteAt s 6 ≤ byteAt u 6 = grown .roles in let i : byteAt s 7 ≤ byteAt u 7 = grown .variables in
+      let g : headerOf s .c ≤ headerOf u .c = grown .constants in let h : headerOf s .r ≤ headerOf u .r = grown .roles in let i : headerOf s .v ≤ headerOf u .v = grown .variables in
       record {
         constants = omega arith;
         roles = omega arith;
@@ -165,5 +165,5 @@ module _ (s u : List ℕ) (grown : Grown s u) where
   pub grown-lines : SameLines s u → tableOf u .lines ≡ tableOf s .lines
   unfolding SameLines lineAt
   grown-lines e =
-      let a = here .lines in let b = there .lines in let q : byteAt s 9 ≡ byteAt u 9 = e in
+      let a = here .lines in let b = there .lines in let q : headerOf s .m ≡ headerOf u .m = e in
       ext-getD (record { left = []; right = constant 0 }) (tableOf u .lines) (tableOf s .lines) (omega arith) (λ i h. line-same i (omega arith))

@@ -13,8 +13,7 @@ use native.Mathlib.Omega.{arith}
 use lib.Dec.{T}
 use lib.ListN.{length, drop}
 use Rattle.el.specs.Test.{everyOf}
-use Rattle.el.specs.Description.{sameRole}
-use Rattle.el.specs.Table.{Table}
+use Rattle.el.specs.Table.{Table, roleOrder}
 use Rattle.el.specs.Meaning.{Substitution, makes}
 use Rattle.el.specs.Assignment.{Assignment}
 use Rattle.table.specs.Code.{kindOf, within, fillerOfKind, fillerOf, entryOfKind, entryOf}
@@ -251,13 +250,13 @@ p12-no-budget = demand-2-no-budget (p12 .bytes) (tableOf (p12 .bytes)) p12-table
 ----------------------------------------------------------------------------------------------------
 -- Demand 3
 
-pub p5-any-depth : (γ : Substitution) → T (makes sameRole (tableOf (p5 .bytes)) γ) → ⊥
+pub p5-any-depth : (γ : Substitution) → T (makes (roleOrder (tableOf (p5 .bytes))) (tableOf (p5 .bytes)) γ) → ⊥
 p5-any-depth = demand-3-none (p5 .bytes) 3 eight p5-none
 
-pub p12-any-depth : (γ : Substitution) → T (makes sameRole (tableOf (p12 .bytes)) γ) → ⊥
+pub p12-any-depth : (γ : Substitution) → T (makes (roleOrder (tableOf (p12 .bytes))) (tableOf (p12 .bytes)) γ) → ⊥
 p12-any-depth = demand-3-none (p12 .bytes) 33 eight p12-none
 
-pub p8-some : (γ : Substitution) × T (makes sameRole (tableOf (p8 .bytes)) γ)
+pub p8-some : (γ : Substitution) × T (makes (roleOrder (tableOf (p8 .bytes))) (tableOf (p8 .bytes)) γ)
 p8-some = demand-3-solved (p8 .bytes) 14 eight p8-solved
 
 pub p5-grown-never : (b : ℕ) (out : List ℕ) → answer p5-more b out .number ≡ 0 → ⊥

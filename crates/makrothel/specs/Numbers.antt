@@ -6,8 +6,7 @@
 --   NumberAt s b room n k p == to the bytes s, the budget b and an output of `room` bytes belong the number n, the count k and the place p
 use mathlib.Core.List.{List}
 use Prim.Native.Nat.{ℕ, _*_, _≤_, _<_}
-use Rattle.el.specs.Description.{sameRole}
-use Rattle.el.specs.Table.{Table}
+use Rattle.el.specs.Table.{Table, roleOrder}
 use Rattle.el.specs.Assignment.{Assignment, IsAssignment, Solves, Before}
 use Rattle.el.specs.Walk.{count}
 use Rattle.table.specs.Bytes.{IsTable}
@@ -16,14 +15,14 @@ use Rattle.table.specs.Refusal.{RefusedAt}
 -- "the first acyclic assignment in counting order that makes every line true"
 unfoldable pub FirstSolving : Table → Assignment → Type 0
 FirstSolving t a =
-    IsAssignment t a × Solves sameRole t a × ((m : Assignment) → IsAssignment t m → Solves sameRole t m → Before m a → ⊥)
+    IsAssignment t a × Solves (roleOrder t) t a × ((m : Assignment) → IsAssignment t m → Solves (roleOrder t) t m → Before m a → ⊥)
 
 -- "there is no such assignment"
 unfoldable pub NoneSolves : Table → Type 0
-NoneSolves t = (m : Assignment) → IsAssignment t m → Solves sameRole t m → ⊥
+NoneSolves t = (m : Assignment) → IsAssignment t m → Solves (roleOrder t) t m → ⊥
 
 abbrev pub N : Table → ℕ
-N t = count sameRole t
+N t = count (roleOrder t) t
 
 -- "Numbers handed back", in the order of judging: "Then 6, then 7, then the walk."
 pub data NumberAt (s : List ℕ) (b room : ℕ) : ℕ → ℕ → ℕ → Type 0 where

@@ -10,8 +10,7 @@ use mathlib.Core.List.{List}
 use Prim.Native.Nat.{ℕ, _*_}
 use lib.Dec.{ltb}
 use lib.ListN.{length}
-use Rattle.el.specs.Description.{sameRole}
-use Rattle.el.specs.Table.{Table}
+use Rattle.el.specs.Table.{Table, roleOrder}
 use Rattle.el.specs.Walk.{Outcome, solved, nothing, budget, outcome}
 use Rattle.table.specs.Reading.{Reading, refusal, readable, reading}
 use Rattle.output.specs.Written.{written}
@@ -42,7 +41,7 @@ unfoldable pub tableAs : Table → ℕ → List ℕ → Answered
 tableAs t b out =
     elim (ltb (length out) (4 * t .variables)) [
       | true ↦ refusedAs 7 (4 * t .variables) out
-      | false ↦ outcomeAs (outcome sameRole t b) out
+      | false ↦ outcomeAs (outcome (roleOrder t) t b) out
     ]
 
 abbrev pub readingAs : Reading → ℕ → List ℕ → Answered

@@ -14,7 +14,7 @@ use lib.ListN.{length, take, drop, length-drop}
 use lib.Seq.{length-take-le}
 use denote.Ref.{RefT, now}
 use borrow.Author.Tests.{lt-ltb}
-use Rattle.table.specs.Reading.{byteAt, reading, isReadable}
+use Rattle.table.specs.Reading.{byteAt, reading, isReadable, headerOf}
 use Rattle.table.specs.Layout.{lineStart}
 use Rattle.table.specs.LayoutLaws.{layout}
 use Rattle.makrothel.specs.declared.ReadAnswer.{ReadAnswer}
@@ -36,9 +36,9 @@ solve-unique s b out q r after later p e =
     let same : answered q after ≡ answered r later = p ∙ sym e in
     ((λ i. record { number = same i .number; count = same i .count; place = same i .place }), ap (λ (x : Answered). x .output) same)
 
-pub line-length : (s : List ℕ) (n : ℕ) → T (isReadable (reading s)) → n < byteAt s 9 → length (linePart s n) ≡ byteAt s (lineStart s n) + 2
+pub line-length : (s : List ℕ) (n : ℕ) → T (isReadable (reading s)) → n < headerOf s .m → length (linePart s n) ≡ byteAt s (lineStart s n) + 2
 unfolding linePart hasLine
-line-length s n ok h = go (isReadable (reading s)) ok (ltb n (byteAt s 9)) (lt-ltb n (byteAt s 9) h)
+line-length s n ok h = go (isReadable (reading s)) ok (ltb n (headerOf s .m)) (lt-ltb n (headerOf s .m) h)
   where
     there : lineStart s n + byteAt s (lineStart s n) + 2 ≤ length s
     there = layout s ok .line-in n h

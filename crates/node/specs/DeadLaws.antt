@@ -20,7 +20,7 @@ use borrow.Author.Tests.{eq-eqb, ne-eqb}
 use Rattle.el.specs.Test.{anyBelow, anyOf}
 use Rattle.el.specs.TestLaws.{anyBelow-step, anyBelow-true-at, anyOf-places, everyOf-all}
 use Rattle.el.specs.Description.{sameRole}
-use Rattle.el.specs.Table.{constant, Line, Table}
+use Rattle.el.specs.Table.{constant, Line, Table, roleOrder}
 use Rattle.el.specs.Meaning.{holds}
 use Rattle.el.specs.Assignment.{Assignment, setOf, acyclic, induced}
 use Rattle.el.specs.ReachLaws.{acyclic-same}
@@ -48,28 +48,28 @@ module _ (t : Table) (s : Node) where
   unfolding failsTo anyBelow
   fails-none = refl
 
-  pub fails-more : (n : ℕ) → failsTo t s n ≡ false → fails sameRole t s (lineAt (t .lines) n) ≡ false → failsTo t s (n + 1) ≡ false
+  pub fails-more : (n : ℕ) → failsTo t s n ≡ false → fails (roleOrder t) t s (lineAt (t .lines) n) ≡ false → failsTo t s (n + 1) ≡ false
   unfolding failsTo
-  fails-more n e f = anyBelow-step n (λ i. fails sameRole t s (lineAt (t .lines) i)) e f
+  fails-more n e f = anyBelow-step n (λ i. fails (roleOrder t) t s (lineAt (t .lines) i)) e f
 
-  pub fails-found : (m n : ℕ) → n < m → fails sameRole t s (lineAt (t .lines) n) ≡ true → failsTo t s m ≡ true
+  pub fails-found : (m n : ℕ) → n < m → fails (roleOrder t) t s (lineAt (t .lines) n) ≡ true → failsTo t s m ≡ true
   unfolding failsTo
-  fails-found m n h e = anyBelow-true-at m n (λ i. fails sameRole t s (lineAt (t .lines) i)) h e
+  fails-found m n h e = anyBelow-true-at m n (λ i. fails (roleOrder t) t s (lineAt (t .lines) i)) h e
 
   pub fails-whole : (m n : ℕ) → n ≤ m → m ≤ n → failsTo t s n ≡ false → failsTo t s m ≡ false
   fails-whole m n h k e = ap (failsTo t s) (let z : m ≡ n = omega arith in z) ∙ e
 
-  pub dead-fails : (m : ℕ) → m ≡ length (t .lines) → acyclic t s ≡ true → dead sameRole t s ≡ failsTo t s m
+  pub dead-fails : (m : ℕ) → m ≡ length (t .lines) → acyclic t s ≡ true → dead (roleOrder t) t s ≡ failsTo t s m
   unfolding failsTo
   dead-fails m q e =
-      dead-lines sameRole t s e ∙ any-below (fails sameRole t s) (t .lines)
-      ∙ ap (λ (k : ℕ). anyBelow k (λ i. fails sameRole t s (lineAt (t .lines) i))) (sym q)
+      dead-lines (roleOrder t) t s e ∙ any-below (fails (roleOrder t) t s) (t .lines)
+      ∙ ap (λ (k : ℕ). anyBelow k (λ i. fails (roleOrder t) t s (lineAt (t .lines) i))) (sym q)
 
 ----------------------------------------------------------------------------------------------------
 -- One line
 
 pub same-holds : (t : Table) (a b : Assignment) → ((x : ℕ) → setOf a x ≡ setOf b x) → (l : Line)
-    → holds sameRole (t .rows) (induced t a) l ≡ holds sameRole (t .rows) (induced t b) l
+    → holds (roleOrder t) (t .rows) (induced t a) l ≡ holds (roleOrder t) (t .rows) (induced t b) l
 same-holds t a b same l =
     line-same (t .rows) (λ x. true) (induced t a) (induced t b) (λ x u. induced-same t a b same x) sameRole l
     (everyOf-all (λ x. true) (lineVariables (t .rows) l) 0 (λ i h. tt))
@@ -79,13 +79,13 @@ module _ (t : Table) (s : Node) (l : Line) (own k : ℕ) (is : Masks (isAmong (l
   unfolding ready
   by-masks = ready-by (settled t s) (lineVariables (t .rows) l) own k is of
 
-  pub not-ready : (bitAnd own k ≡ own → ⊥) → fails sameRole t s l ≡ false
+  pub not-ready : (bitAnd own k ≡ own → ⊥) → fails (roleOrder t) t s l ≡ false
   unfolding fails
-  not-ready e = ap (λ (p : Bool). p && not (holds sameRole (t .rows) (induced t s) l)) (sym by-masks ∙ ne-eqb (bitAnd own k) own e)
+  not-ready e = ap (λ (p : Bool). p && not (holds (roleOrder t) (t .rows) (induced t s) l)) (sym by-masks ∙ ne-eqb (bitAnd own k) own e)
 
-  pub ready-fails : bitAnd own k ≡ own → fails sameRole t s l ≡ not (holds sameRole (t .rows) (induced t s) l)
+  pub ready-fails : bitAnd own k ≡ own → fails (roleOrder t) t s l ≡ not (holds (roleOrder t) (t .rows) (induced t s) l)
   unfolding fails
-  ready-fails e = ap (λ (p : Bool). p && not (holds sameRole (t .rows) (induced t s) l)) (sym by-masks ∙ eq-eqb (bitAnd own k) own e)
+  ready-fails e = ap (λ (p : Bool). p && not (holds (roleOrder t) (t .rows) (induced t s) l)) (sym by-masks ∙ eq-eqb (bitAnd own k) own e)
 
 ----------------------------------------------------------------------------------------------------
 -- The test of a line
@@ -103,11 +103,11 @@ module _ (s : List ℕ) (c e v n at : ℕ) (sets : Sets) (own k : ℕ) (test : L
     begins = test .begins;
   }
 
-  pub test-not : (bitAnd own k ≡ own → ⊥) → fails sameRole (tableOf s) (nodeOf sets) (lineAt (tableOf s .lines) n) ≡ false
+  pub test-not : (bitAnd own k ≡ own → ⊥) → fails (roleOrder (tableOf s)) (tableOf s) (nodeOf sets) (lineAt (tableOf s .lines) n) ≡ false
   test-not e = not-ready (tableOf s) (nodeOf sets) (lineAt (tableOf s .lines) n) own k (test .owns) (test .settled) e
 
-  pub test-ready : (b : Bool) → bitAnd own k ≡ own → b ≡ holds sameRole (tableOf s .rows) (induced (tableOf s) (sets .set)) (lineAt (tableOf s .lines) n)
-      → not b ≡ fails sameRole (tableOf s) (nodeOf sets) (lineAt (tableOf s .lines) n)
+  pub test-ready : (b : Bool) → bitAnd own k ≡ own → b ≡ holds (roleOrder (tableOf s)) (tableOf s .rows) (induced (tableOf s) (sets .set)) (lineAt (tableOf s .lines) n)
+      → not b ≡ fails (roleOrder (tableOf s)) (tableOf s) (nodeOf sets) (lineAt (tableOf s .lines) n)
   test-ready b e is =
       ap not (is ∙ sym (same-holds (tableOf s) (nodeOf sets) (sets .set) (same-sets sets (test .clean)) (lineAt (tableOf s .lines) n)))
       ∙ sym (ready-fails (tableOf s) (nodeOf sets) (lineAt (tableOf s .lines) n) own k (test .owns) (test .settled) e)

@@ -20,7 +20,7 @@ use lib.Seq.{getD-set-same, getD-set-other}
 use Rattle.el.specs.Table.{constant, Row, Table, rowAt}
 use Rattle.el.specs.Assignment.{isVariable}
 use Rattle.el.specs.Walk.{lineVariables}
-use Rattle.table.specs.Reading.{byteAt, tableOf}
+use Rattle.table.specs.Reading.{byteAt, tableOf, headerOf}
 use Rattle.table.specs.Layout.{Layout, lineAt, lineStart}
 use Rattle.node.specs.Node.{Masks, isAmong, entryAs, FillMasks, LineMasks, LineStarts, Prepares}
 
@@ -31,7 +31,7 @@ pub record LineLies (s : List ℕ) (t : Table) (n at p : ℕ) : Type 0 where
   pub entry : (i : ℕ) → i < p → entryAs s (byteAt s (at + 1 + i)) ≡ some (getD (lineAt (t .lines) n .left) i (constant 0))
   pub last : entryAs s (byteAt s (at + 1 + p)) ≡ some (lineAt (t .lines) n .right)
 
-pub line-lies : (s : List ℕ) (t : Table) (n at p : ℕ) → Layout s t → n < byteAt s 9 → at ≡ lineStart s n → p ≡ byteAt s at → LineLies s t n at p
+pub line-lies : (s : List ℕ) (t : Table) (n at p : ℕ) → Layout s t → n < headerOf s .m → at ≡ lineStart s n → p ≡ byteAt s at → LineLies s t n at p
 line-lies s t n at p layout h e q =
     subst (λ (k : ℕ). LineLies s t n at k) (sym q)
     (subst (λ (k : ℕ). LineLies s t n k (byteAt s k)) (sym e) record {
@@ -42,10 +42,10 @@ line-lies s t n at p layout h e q =
       last = layout .line-right n h;
     })
 
-pub in-lines : (s : List ℕ) (n m : ℕ) → m ≡ byteAt s 9 → n < m → n < byteAt s 9
+pub in-lines : (s : List ℕ) (n m : ℕ) → m ≡ headerOf s .m → n < m → n < headerOf s .m
 in-lines s n m e h = omega arith
 
-pub line-start : (s : List ℕ) (t : Table) (n at : ℕ) → Layout s t → n < byteAt s 9 → at ≡ lineStart s n → at < length s
+pub line-start : (s : List ℕ) (t : Table) (n at : ℕ) → Layout s t → n < headerOf s .m → at ≡ lineStart s n → at < length s
 line-start s t n at layout h e =
     let l : lineStart s n + byteAt s (lineStart s n) + 2 ≤ length s = layout .line-in n h in
     omega arith
@@ -99,7 +99,7 @@ module _ (s start : List ℕ) where
   unfolding LineStarts
   starts-more n at h f g = one-more (λ i a. a ≡ lineStart s i) start n at h f g
 
-pub prepared : (s fill mask start : List ℕ) (e m : ℕ) → e ≡ byteAt s 8 → m ≡ byteAt s 9 → FillMasks (tableOf s .rows) e fill → LineMasks (tableOf s) m mask
+pub prepared : (s fill mask start : List ℕ) (e m : ℕ) → e ≡ headerOf s .e → m ≡ headerOf s .m → FillMasks (tableOf s .rows) e fill → LineMasks (tableOf s) m mask
     → LineStarts s m start → length fill ≡ 24 → length mask ≡ 64 → length start ≡ 64 → Prepares s fill mask start
 prepared s fill mask start e m p q f g h a b c = record {
   fills = subst (λ (k : ℕ). FillMasks (tableOf s .rows) k fill) p f;

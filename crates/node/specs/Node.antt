@@ -35,12 +35,11 @@ use Prim.Native.Nat.{ℕ, _+_, _/_, _^_, _≤_, _<_}
 use lib.Dec.{T, eqb, ltb}
 use lib.ListN.{length, getD, take}
 use Rattle.el.specs.Test.{anyBelow, allBelow, anyOf, bit}
-use Rattle.el.specs.Description.{sameRole}
-use Rattle.el.specs.Table.{Entry, Row, Line, Table, rowAt}
+use Rattle.el.specs.Table.{Entry, Row, Line, Table, rowAt, roleOrder}
 use Rattle.el.specs.Assignment.{isVariable, path, reaches, acyclic}
 use Rattle.el.specs.Walk.{Node, entriesVariables, lineVariables, settled, fails}
 use Rattle.table.specs.Code.{entryOf}
-use Rattle.table.specs.Reading.{byteAt, reading, isReadable, tableOf, maxAtoms, maxLines}
+use Rattle.table.specs.Reading.{reading, isReadable, tableOf, maxAtoms, maxLines, headerOf}
 use Rattle.table.specs.Layout.{lineAt, lineStart}
 use Rattle.node.specs.declared.Sets.{Sets}
 
@@ -82,15 +81,15 @@ pub record Fills (t : Table) (c e : ℕ) (fill : List ℕ) : Type 0 where
   pub masks : FillMasks (t .rows) e fill
 
 pub record Prepares (s fill mask start : List ℕ) : Type 0 where
-  pub fills : FillMasks (tableOf s .rows) (byteAt s 8) fill
-  pub masks : LineMasks (tableOf s) (byteAt s 9) mask
-  pub starts : LineStarts s (byteAt s 9) start
+  pub fills : FillMasks (tableOf s .rows) (headerOf s .e) fill
+  pub masks : LineMasks (tableOf s) (headerOf s .m) mask
+  pub starts : LineStarts s (headerOf s .m) start
   pub fill-room : length fill ≡ maxAtoms
   pub mask-room : length mask ≡ maxLines
   pub start-room : length start ≡ maxLines
 
 abbrev pub entryAs : List ℕ → ℕ → Option Entry
-entryAs s b = entryOf (byteAt s 5) (byteAt s 8) (byteAt s 7) b
+entryAs s b = entryOf (headerOf s .c) (headerOf s .e) (headerOf s .v) b
 
 abbrev pub IsEntry : List ℕ → ℕ → Type 0
 IsEntry s b = (x : Entry) × (entryAs s b ≡ some x)
@@ -123,25 +122,25 @@ unfoldable pub leadsBy : List ℕ → ℕ → ℕ → ℕ → Bool
 leadsBy rows z x y = ltb y x && bit z (rowOf rows y)
 
 unfoldable pub failsTo : Table → Node → ℕ → Bool
-failsTo t s n = anyBelow n (λ i. fails sameRole t s (lineAt (t .lines) i))
+failsTo t s n = anyBelow n (λ i. fails (roleOrder t) t s (lineAt (t .lines) i))
 
 pub record NodeGiven (s : List ℕ) (c e v m : ℕ) (sets : Sets) : Type 0 where
   pub readable : T (isReadable (reading s))
-  pub constants : c ≡ byteAt s 5
-  pub restrictions : e ≡ byteAt s 8
-  pub variables : v ≡ byteAt s 7
-  pub lines : m ≡ byteAt s 9
+  pub constants : c ≡ headerOf s .c
+  pub restrictions : e ≡ headerOf s .e
+  pub variables : v ≡ headerOf s .v
+  pub lines : m ≡ headerOf s .m
   pub chosen : sets .chosen ≤ v
   pub clean : Clean sets
 
 pub record LineTest (s : List ℕ) (c e v n at : ℕ) (sets : Sets) (own k : ℕ) : Type 0 where
   pub readable : T (isReadable (reading s))
-  pub constants : c ≡ byteAt s 5
-  pub restrictions : e ≡ byteAt s 8
-  pub variables : v ≡ byteAt s 7
+  pub constants : c ≡ headerOf s .c
+  pub restrictions : e ≡ headerOf s .e
+  pub variables : v ≡ headerOf s .v
   pub clean : Clean sets
   pub straight : T (acyclic (tableOf s) (nodeOf sets))
-  pub line : n < byteAt s 9
+  pub line : n < headerOf s .m
   pub begins : at ≡ lineStart s n
   pub owns : Masks (isAmong (lineVariables (tableOf s .rows) (lineAt (tableOf s .lines) n))) own
   pub settled : Masks (settled (tableOf s) (nodeOf sets)) k

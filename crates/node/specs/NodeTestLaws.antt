@@ -12,12 +12,12 @@ use mathlib.Core.List.{List}
 use Prim.Native.Nat.{ℕ, _+_, _≤_}
 use native.Mathlib.Omega.{arith}
 use lib.ListN.{length}
+use Rattle.el.specs.Table.{roleOrder}
 use Rattle.el.specs.TestLaws.{true-is}
-use Rattle.el.specs.Description.{sameRole}
 use Rattle.el.specs.Assignment.{acyclic}
 use Rattle.el.specs.Walk.{settled, dead}
 use Rattle.el.specs.NodeLaws.{dead-cyclic}
-use Rattle.table.specs.Reading.{byteAt, tableOf}
+use Rattle.table.specs.Reading.{tableOf, headerOf}
 use Rattle.table.specs.Layout.{Layout}
 use Rattle.table.specs.LayoutLaws.{layout}
 use Rattle.node.specs.declared.Sets.{Sets}
@@ -32,19 +32,19 @@ module _ (s : List ℕ) (c e v m : ℕ) (sets : Sets) (given : NodeGiven s c e v
 
   pub node-few : sets .chosen ≤ 12
   node-few =
-      let few : byteAt s 7 ≤ 12 = node-layout .few-variables in
+      let few : headerOf s .v ≤ 12 = node-layout .few-variables in
       let h : sets .chosen ≤ v = given .chosen in
-      let q : v ≡ byteAt s 7 = given .variables in
+      let q : v ≡ headerOf s .v = given .variables in
       omega arith
 
   pub square-needs : (fill : List ℕ) → length fill ≡ 24 → (c + e ≤ 24) × (e ≤ length fill) × (sets .chosen ≤ 12) × Clean sets
   square-needs fill room =
-      let few : byteAt s 5 + byteAt s 8 ≤ 24 = node-layout .few-atoms in
-      let p : c ≡ byteAt s 5 = given .constants in
-      let q : e ≡ byteAt s 8 = given .restrictions in
+      let few : headerOf s .c + headerOf s .e ≤ 24 = node-layout .few-atoms in
+      let p : c ≡ headerOf s .c = given .constants in
+      let q : e ≡ headerOf s .e = given .restrictions in
       (omega arith, omega arith, node-few, given .clean)
 
-  pub node-fills : (fill : List ℕ) → FillMasks (tableOf s .rows) (byteAt s 8) fill → Fills (tableOf s) c e fill
+  pub node-fills : (fill : List ℕ) → FillMasks (tableOf s .rows) (headerOf s .e) fill → Fills (tableOf s) c e fill
   node-fills fill masks = record {
     constants = given .constants ∙ sym (node-layout .constants);
     restrictions = given .restrictions ∙ sym (node-layout .rows);
@@ -58,8 +58,8 @@ module _ (s : List ℕ) (c e v m : ℕ) (sets : Sets) (given : NodeGiven s c e v
     few : length (nodeOf sets) ≤ tableOf s .variables
     few =
         let h : sets .chosen ≤ v = given .chosen in
-        let q : v ≡ byteAt s 7 = given .variables in
-        let p : tableOf s .variables ≡ byteAt s 7 = node-layout .variables in
+        let q : v ≡ headerOf s .v = given .variables in
+        let p : tableOf s .variables ≡ headerOf s .v = node-layout .variables in
         let n : length (nodeOf sets) ≡ sets .chosen = count in
         omega arith
 
@@ -71,8 +71,8 @@ module _ (s : List ℕ) (c e v m : ℕ) (sets : Sets) (given : NodeGiven s c e v
     straight : noCycle rows (sets .chosen) ≡ acyclic (tableOf s) (nodeOf sets)
     straight = ap (noCycle rows) (sym count) ∙ acyclic-shown (tableOf s) (nodeOf sets) few rows node-shows
 
-    pub node-cyclic : noCycle rows (sets .chosen) ≡ false → dead sameRole (tableOf s) (nodeOf sets) ≡ true
-    node-cyclic q = dead-cyclic sameRole (tableOf s) (nodeOf sets) (sym straight ∙ q)
+    pub node-cyclic : noCycle rows (sets .chosen) ≡ false → dead (roleOrder (tableOf s)) (tableOf s) (nodeOf sets) ≡ true
+    node-cyclic q = dead-cyclic (roleOrder (tableOf s)) (tableOf s) (nodeOf sets) (sym straight ∙ q)
 
     module _ (no-cycle : noCycle rows (sets .chosen) ≡ true) where
       pub node-lines : (k : ℕ) → Masks (settledBy rows (sets .chosen) (sets .chosen)) k → LinesGiven s c e v m sets mask start k
@@ -81,11 +81,11 @@ module _ (s : List ℕ) (c e v m : ℕ) (sets : Sets) (given : NodeGiven s c e v
         straight = true-is (acyclic (tableOf s) (nodeOf sets)) (sym straight ∙ no-cycle);
         masks = subst (λ (i : ℕ). LineMasks (tableOf s) i mask) (sym (given .lines)) (ready .masks);
         starts = subst (λ (i : ℕ). LineStarts s i start) (sym (given .lines)) (ready .starts);
-        few-lines = let q : m ≡ byteAt s 9 = given .lines in let l : byteAt s 9 ≤ 64 = node-layout .few-lines in omega arith;
+        few-lines = let q : m ≡ headerOf s .m = given .lines in let l : headerOf s .m ≤ 64 = node-layout .few-lines in omega arith;
         mask-room = ready .mask-room;
         start-room = ready .start-room;
         settled = λ y. is y ∙ settled-says (tableOf s) (node-layout .all-declared) (nodeOf sets) rows (sets .chosen) (sym count) node-shows y;
       }
 
-      pub node-fails : failsTo (tableOf s) (nodeOf sets) m ≡ dead sameRole (tableOf s) (nodeOf sets)
+      pub node-fails : failsTo (tableOf s) (nodeOf sets) m ≡ dead (roleOrder (tableOf s)) (tableOf s) (nodeOf sets)
       node-fails = sym (dead-fails (tableOf s) (nodeOf sets) m (given .lines ∙ sym (node-layout .lines)) (sym straight ∙ no-cycle))

@@ -1,15 +1,19 @@
-// A node: the cycle test with its square of variables, readiness, and whether the node is dead.
+// A node of the walk, and whether it is dead.
+//
+// Given are a readable table, its counts, and the sets of the variables chosen so far. Variables are bits of a mask. From the sets comes
+// which variable depends on which directly; closed over inner variables one at a time, that is the square: row x has a bit for each
+// variable that x leads to. A variable that leads to itself makes the node cyclic, and so dead. Else a variable is settled if it and all it
+// leads to are chosen; a line is ready if all its variables are settled; and the node is dead if a ready line fails.
 use table::Kind;
 ghost use mathlib.Core.Path.{_≡_};
 ghost use mathlib.Core.Option.{some};
 ghost use Prim.Native.Nat.{_+_, _≤_, _<_};
 ghost use lib.Dec.{T};
 ghost use lib.ListN.{length};
-ghost use Rattle.el.specs.Description.{sameRole};
-ghost use Rattle.el.specs.Table.{Entry, rowAt};
+ghost use Rattle.el.specs.Table.{Entry, rowAt, roleOrder};
 ghost use Rattle.el.specs.Assignment.{isVariable};
 ghost use Rattle.el.specs.Walk.{entryVariables, lineVariables, fails, dead};
-ghost use Rattle.table.specs.Reading.{byteAt, reading, isReadable, tableOf};
+ghost use Rattle.table.specs.Reading.{reading, isReadable, tableOf, headerOf};
 ghost use Rattle.table.specs.Layout.{Layout, lineAt, lineStart};
 ghost use Rattle.node.specs.Node.{Clean, Masks, isAmong, dependsBy, dependsFrom, FillMasks, LineMasks, LineStarts, Prepares, entryAs, IsEntry, Direct, Closes, Squares, noCycle, settledBy, leadsBy, nodeOf, failsTo, NodeGiven, LineTest, LinesGiven};
 
@@ -41,7 +45,7 @@ pub struct Prepared {
 // The mask of the variable that stands inside restriction k; 0 where there is none.
 fn filler_mask(table: &[u8], k: usize) -> u32
     requires { ⌜ Layout (now table) (tableOf (now table)) ⌝ }
-    requires { ⌜ k < byteAt (now table) 8 ⌝ }
+    requires { ⌜ k < headerOf (now table) .e ⌝ }
     ensures { λ r. ⌜ Masks (λ y. isVariable y (rowAt (tableOf (now (table .entry)) .rows) k .filler)) r ⌝ }
 {
     match table::kind_of(table[11 + 2 * k]) {
@@ -55,7 +59,7 @@ fn filler_mask(table: &[u8], k: usize) -> u32
 
 // The mask of the variable inside each restriction.
 fn fill_masks(table: &[u8], e: usize) -> [u32; 24]
-    requires { ⌜ Layout (now table) (tableOf (now table)) × (e ≡ byteAt (now table) 8) ⌝ }
+    requires { ⌜ Layout (now table) (tableOf (now table)) × (e ≡ headerOf (now table) .e) ⌝ }
     ensures { λ r. ⌜ FillMasks (tableOf (now (table .entry)) .rows) e r ⌝ }
 {
     let mut fill = [0u32; 24];
@@ -175,7 +179,7 @@ fn entry_mask(table: &[u8], code: u8) -> u32
 // The mask of the variables of line n, fillers included.
 fn line_mask(table: &[u8], n: usize, at: usize) -> u32
     requires { ⌜ Layout (now table) (tableOf (now table)) ⌝ }
-    requires { ⌜ (n < byteAt (now table) 9) × (at ≡ lineStart (now table) n) ⌝ }
+    requires { ⌜ (n < headerOf (now table) .m) × (at ≡ lineStart (now table) n) ⌝ }
     ensures { λ r. ⌜ Masks (isAmong (lineVariables (tableOf (now (table .entry)) .rows) (lineAt (tableOf (now (table .entry)) .lines) n))) r ⌝ }
 {
     let p = table::wide(table[at]);
@@ -190,7 +194,7 @@ fn line_mask(table: &[u8], n: usize, at: usize) -> u32
 
 // The mask of each line's variables, and the byte where it begins.
 fn lines_of(table: &[u8], e: usize, m: usize) -> Lines
-    requires { ⌜ Layout (now table) (tableOf (now table)) × (e ≡ byteAt (now table) 8) × (m ≡ byteAt (now table) 9) ⌝ }
+    requires { ⌜ Layout (now table) (tableOf (now table)) × (e ≡ headerOf (now table) .e) × (m ≡ headerOf (now table) .m) ⌝ }
     ensures { λ r. ⌜ LineMasks (tableOf (now (table .entry))) m (r .mask) × LineStarts (now (table .entry)) m (r .start) ⌝ }
 {
     let mut mask = [0u32; 64];
@@ -208,7 +212,7 @@ fn lines_of(table: &[u8], e: usize, m: usize) -> Lines
 
 // What is prepared once for every node of a table.
 pub fn prepare(table: &[u8], e: usize, m: usize) -> Prepared
-    requires { ⌜ T (isReadable (reading (now table))) × (e ≡ byteAt (now table) 8) × (m ≡ byteAt (now table) 9) ⌝ }
+    requires { ⌜ T (isReadable (reading (now table))) × (e ≡ headerOf (now table) .e) × (m ≡ headerOf (now table) .m) ⌝ }
     ensures { λ r. ⌜ Prepares (now (table .entry)) (r .fill) (r .mask) (r .start) ⌝ }
 {
     let fill = fill_masks(table, e);
@@ -265,7 +269,7 @@ fn line_fails(
     settled: u32,
 ) -> bool
     requires { ⌜ LineTest (now table) c e v n at sets own settled ⌝ }
-    ensures { λ r. ⌜ r ≡ fails sameRole (tableOf (now (table .entry))) (nodeOf sets) (lineAt (tableOf (now (table .entry)) .lines) n) ⌝ }
+    ensures { λ r. ⌜ r ≡ fails (roleOrder (tableOf (now (table .entry)))) (tableOf (now (table .entry))) (nodeOf sets) (lineAt (tableOf (now (table .entry)) .lines) n) ⌝ }
 {
     if (own & settled) != own {
         return false;
@@ -302,7 +306,7 @@ fn some_fails(
 // Whether the node is dead: its chosen sets are cyclic, or else a ready line fails.
 pub fn is_dead(table: &[u8], c: usize, e: usize, v: usize, m: usize, sets: Sets) -> bool
     requires { ⌜ NodeGiven (now table) c e v m sets ⌝ }
-    ensures { λ r. ⌜ r ≡ dead sameRole (tableOf (now (table .entry))) (nodeOf sets) ⌝ }
+    ensures { λ r. ⌜ r ≡ dead (roleOrder (tableOf (now (table .entry)))) (tableOf (now (table .entry))) (nodeOf sets) ⌝ }
 {
     let prepared = prepare(table, e, m);
     let fill = prepared.fill;

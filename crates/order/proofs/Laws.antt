@@ -33,14 +33,14 @@ use Rattle.el.specs.Description.{sameRole}
 use Rattle.el.specs.OrderLaws.{sameRole-refl}
 use Rattle.el.specs.Test.{anyBelow, allBelow, bit}
 use Rattle.el.specs.TestLaws.{is-true, true-is, same-test, false-not, anyBelow-hit, anyBelow-found, anyBelow-none, anyBelow-same, anyBelow-false-at, allBelow-every, allBelow-same, allBelow-true-at, allBelow-false-at}
-use Rattle.el.specs.Table.{Filler, topF, constantF, variableF, Entry, constant, restriction, variable, Line, Table, rowAt, atoms, lineDeclared}
+use Rattle.el.specs.Table.{Filler, topF, constantF, variableF, Entry, constant, restriction, variable, Line, Table, rowAt, atoms, lineDeclared, roleOrder}
 use Rattle.el.specs.TableLaws.{line-declared}
 use Rattle.el.specs.Meaning.{holds}
 use Rattle.el.specs.Assignment.{Assignment, setOf, acyclic, induced}
 use Rattle.table.specs.declared.Kind.{Kind}
 use Rattle.table.specs.declared.Kind.the-variants.{Top, Constant, Restriction, Variable, Other}
 use Rattle.table.specs.Code.{kindOf, fillerOf, fillerOfKind, entryOf, entryOfKind}
-use Rattle.table.specs.Reading.{byteAt, reading, isReadable, tableOf}
+use Rattle.table.specs.Reading.{byteAt, reading, isReadable, tableOf, headerOf}
 use Rattle.table.specs.Layout.{lineAt, lineStart, Layout}
 use Rattle.table.specs.CodeLaws.{within-some}
 use Rattle.table.specs.LayoutLaws.{layout}
@@ -68,51 +68,51 @@ kind-entry c e v (Restriction k) x q = within-some k e (restriction k) x q .1
 kind-entry c e v (Variable k) x q = within-some k v (variable k) x q .1
 kind-entry c e v Other x q = absurd (Option·none-ne-some x q)
 
-pub filler-read : (s : List ℕ) (b : ℕ) (f : Filler) → fillerOf (byteAt s 5) (byteAt s 7) b ≡ some f → fillerFrom b ≡ f
+pub filler-read : (s : List ℕ) (b : ℕ) (f : Filler) → fillerOf (headerOf s .c) (headerOf s .v) b ≡ some f → fillerFrom b ≡ f
 unfolding fillerOf fillerFrom
-filler-read s b f q = kind-filler (byteAt s 5) (byteAt s 7) (kindOf b) f q
+filler-read s b f q = kind-filler (headerOf s .c) (headerOf s .v) (kindOf b) f q
 
-pub entry-read : (s : List ℕ) (b : ℕ) (x : Entry) → entryOf (byteAt s 5) (byteAt s 8) (byteAt s 7) b ≡ some x → entryFrom b ≡ x
+pub entry-read : (s : List ℕ) (b : ℕ) (x : Entry) → entryOf (headerOf s .c) (headerOf s .e) (headerOf s .v) b ≡ some x → entryFrom b ≡ x
 unfolding entryOf entryFrom
-entry-read s b x q = kind-entry (byteAt s 5) (byteAt s 8) (byteAt s 7) (kindOf b) x q
+entry-read s b x q = kind-entry (headerOf s .c) (headerOf s .e) (headerOf s .v) (kindOf b) x q
 
 module _ (s : List ℕ) (b : ℕ) (k : ℕ) where
-  pub filler-constant : IsFiller s b → kindOf b ≡ Constant k → k < byteAt s 5
+  pub filler-constant : IsFiller s b → kindOf b ≡ Constant k → k < headerOf s .c
   unfolding IsFiller fillerOf fillerOfKind fillerFrom
-  filler-constant q e = within-some k (byteAt s 5) (constantF k) (fillerFromKind (kindOf b)) (ap (fillerOfKind (byteAt s 5) (byteAt s 7)) (sym e) ∙ q) .0
+  filler-constant q e = within-some k (headerOf s .c) (constantF k) (fillerFromKind (kindOf b)) (ap (fillerOfKind (headerOf s .c) (headerOf s .v)) (sym e) ∙ q) .0
 
-  pub filler-variable : IsFiller s b → kindOf b ≡ Variable k → k < byteAt s 7
+  pub filler-variable : IsFiller s b → kindOf b ≡ Variable k → k < headerOf s .v
   unfolding IsFiller fillerOf fillerOfKind fillerFrom
-  filler-variable q e = within-some k (byteAt s 7) (variableF k) (fillerFromKind (kindOf b)) (ap (fillerOfKind (byteAt s 5) (byteAt s 7)) (sym e) ∙ q) .0
+  filler-variable q e = within-some k (headerOf s .v) (variableF k) (fillerFromKind (kindOf b)) (ap (fillerOfKind (headerOf s .c) (headerOf s .v)) (sym e) ∙ q) .0
 
-  pub entry-constant : IsEntry s b → kindOf b ≡ Constant k → k < byteAt s 5
+  pub entry-constant : IsEntry s b → kindOf b ≡ Constant k → k < headerOf s .c
   unfolding IsEntry entryOf entryOfKind entryFrom
-  entry-constant q e = within-some k (byteAt s 5) (constant k) (entryFromKind (kindOf b)) (ap (entryOfKind (byteAt s 5) (byteAt s 8) (byteAt s 7)) (sym e) ∙ q) .0
+  entry-constant q e = within-some k (headerOf s .c) (constant k) (entryFromKind (kindOf b)) (ap (entryOfKind (headerOf s .c) (headerOf s .e) (headerOf s .v)) (sym e) ∙ q) .0
 
-  pub entry-restriction : IsEntry s b → kindOf b ≡ Restriction k → k < byteAt s 8
+  pub entry-restriction : IsEntry s b → kindOf b ≡ Restriction k → k < headerOf s .e
   unfolding IsEntry entryOf entryOfKind entryFrom
-  entry-restriction q e = within-some k (byteAt s 8) (restriction k) (entryFromKind (kindOf b)) (ap (entryOfKind (byteAt s 5) (byteAt s 8) (byteAt s 7)) (sym e) ∙ q) .0
+  entry-restriction q e = within-some k (headerOf s .e) (restriction k) (entryFromKind (kindOf b)) (ap (entryOfKind (headerOf s .c) (headerOf s .e) (headerOf s .v)) (sym e) ∙ q) .0
 
-  pub entry-variable : IsEntry s b → kindOf b ≡ Variable k → k < byteAt s 7
+  pub entry-variable : IsEntry s b → kindOf b ≡ Variable k → k < headerOf s .v
   unfolding IsEntry entryOf entryOfKind entryFrom
-  entry-variable q e = within-some k (byteAt s 7) (variable k) (entryFromKind (kindOf b)) (ap (entryOfKind (byteAt s 5) (byteAt s 8) (byteAt s 7)) (sym e) ∙ q) .0
+  entry-variable q e = within-some k (headerOf s .v) (variable k) (entryFromKind (kindOf b)) (ap (entryOfKind (headerOf s .c) (headerOf s .e) (headerOf s .v)) (sym e) ∙ q) .0
 
 -- the number w that a code's kind holds fits a shift, or is a place among the sets
 module _ (s : List ℕ) (a : Assignment) (c e : ℕ) (g : Given s a c e) (b k w : ℕ) (same : w ≡ k) where
   pub filler-constant-fits : IsFiller s b → kindOf b ≡ Constant k → w < 32
-  filler-constant-fits q p = let h : k < byteAt s 5 = filler-constant s b k q p in let m : c ≡ byteAt s 5 = g .constants in let l : c + e ≤ 24 = g .few-atoms in omega arith
+  filler-constant-fits q p = let h : k < headerOf s .c = filler-constant s b k q p in let m : c ≡ headerOf s .c = g .constants in let l : c + e ≤ 24 = g .few-atoms in omega arith
 
   pub filler-variable-fits : IsFiller s b → kindOf b ≡ Variable k → w < length a
-  filler-variable-fits q p = let h : k < byteAt s 7 = filler-variable s b k q p in let m : byteAt s 7 ≤ 12 = layout s (g .readable) .few-variables in let l : length a ≡ 12 = g .sets in omega arith
+  filler-variable-fits q p = let h : k < headerOf s .v = filler-variable s b k q p in let m : headerOf s .v ≤ 12 = layout s (g .readable) .few-variables in let l : length a ≡ 12 = g .sets in omega arith
 
   pub entry-constant-fits : IsEntry s b → kindOf b ≡ Constant k → w < 32
-  entry-constant-fits q p = let h : k < byteAt s 5 = entry-constant s b k q p in let m : c ≡ byteAt s 5 = g .constants in let l : c + e ≤ 24 = g .few-atoms in omega arith
+  entry-constant-fits q p = let h : k < headerOf s .c = entry-constant s b k q p in let m : c ≡ headerOf s .c = g .constants in let l : c + e ≤ 24 = g .few-atoms in omega arith
 
   pub entry-restriction-fits : IsEntry s b → kindOf b ≡ Restriction k → c + w < 32
-  entry-restriction-fits q p = let h : k < byteAt s 8 = entry-restriction s b k q p in let m : e ≡ byteAt s 8 = g .restrictions in let l : c + e ≤ 24 = g .few-atoms in omega arith
+  entry-restriction-fits q p = let h : k < headerOf s .e = entry-restriction s b k q p in let m : e ≡ headerOf s .e = g .restrictions in let l : c + e ≤ 24 = g .few-atoms in omega arith
 
   pub entry-variable-fits : IsEntry s b → kindOf b ≡ Variable k → w < length a
-  entry-variable-fits q p = let h : k < byteAt s 7 = entry-variable s b k q p in let m : byteAt s 7 ≤ 12 = layout s (g .readable) .few-variables in let l : length a ≡ 12 = g .sets in omega arith
+  entry-variable-fits q p = let h : k < headerOf s .v = entry-variable s b k q p in let m : headerOf s .v ≤ 12 = layout s (g .readable) .few-variables in let l : length a ≡ 12 = g .sets in omega arith
 
 -- the set of a filler's code, by its kind
 module _ (a : Assignment) (b : ℕ) where
@@ -183,7 +183,7 @@ module _ (s : List ℕ) (a : Assignment) (c e : ℕ) (g : Given s a c e) where
   pub constant-count : tableOf s .constants ≡ c
   constant-count = layout s (g .readable) .constants ∙ sym (g .constants)
 
-  row-in : (k : ℕ) → k < e → k < byteAt s 8
+  row-in : (k : ℕ) → k < e → k < headerOf s .e
   row-in k h = subst (λ (n : ℕ). k < n) (g .restrictions) h
 
   row-role : (k : ℕ) → k < e → rowAt (tableOf s .rows) k .role ≡ byteAt s (10 + 2 * k)
@@ -285,9 +285,9 @@ module _ (s : List ℕ) (a : Assignment) (c e : ℕ) (g : Given s a c e) (d S j 
   pub set-constant : j < c → bit j S ≡ setBelow s a d S j
   unfolding setBelow setTest
   set-constant h = sym (
-      ap (λ (n : ℕ). anyBelow n (λ i. bit i S && atomTest sameRole (tableOf s) (fillerTest sameRole (tableOf s) a d) i j)) (atom-count s a c e g)
-      ∙ anyBelow-same (c + e) (λ i. bit i S && atomTest sameRole (tableOf s) (fillerTest sameRole (tableOf s) a d) i j) (λ i. eqb i j && bit i S)
-      (λ i l. ap (λ b. bit i S && b) (atom-constant sameRole (tableOf s) (fillerTest sameRole (tableOf s) a d) i j (subst (λ (n : ℕ). j < n) (sym (constant-count s a c e g)) h)) ∙ and-comm (bit i S) (eqb i j))
+      ap (λ (n : ℕ). anyBelow n (λ i. bit i S && atomTest (roleOrder (tableOf s)) (tableOf s) (fillerTest (roleOrder (tableOf s)) (tableOf s) a d) i j)) (atom-count s a c e g)
+      ∙ anyBelow-same (c + e) (λ i. bit i S && atomTest (roleOrder (tableOf s)) (tableOf s) (fillerTest (roleOrder (tableOf s)) (tableOf s) a d) i j) (λ i. eqb i j && bit i S)
+      (λ i l. ap (λ b. bit i S && b) (atom-constant (roleOrder (tableOf s)) (tableOf s) (fillerTest (roleOrder (tableOf s)) (tableOf s) a d) i j (subst (λ (n : ℕ). j < n) (sym (constant-count s a c e g)) h)) ∙ and-comm (bit i S) (eqb i j))
       ∙ any-one (λ i. eqb i j) (λ i. bit i S) (c + e) j (omega arith) (λ i. refl))
 
   -- below the restriction j: some row of the set has its role, and a filler below its own
@@ -300,16 +300,16 @@ module _ (s : List ℕ) (a : Assignment) (c e : ℕ) (g : Given s a c e) (d S j 
       ∙ ap (λ (n : ℕ). anyBelow e (RowAsk s a c d S (byteAt s (10 + 2 * (j - c))) (byteAt s n))) (next (j - c))
     where
       fb : Filler → Filler → Bool
-      fb = fillerTest sameRole (tableOf s) a d
+      fb = fillerTest (roleOrder (tableOf s)) (tableOf s) a d
 
       ask : ℕ → Bool
-      ask i = bit i S && atomTest sameRole (tableOf s) (fillerTest sameRole (tableOf s) a d) i j
+      ask i = bit i S && atomTest (roleOrder (tableOf s)) (tableOf s) (fillerTest (roleOrder (tableOf s)) (tableOf s) a d) i j
 
       in-rows : tableOf s .constants ≤ j
       in-rows = subst (λ (n : ℕ). n ≤ j) (sym (constant-count s a c e g)) h
 
       opened : (i : ℕ) → ask i ≡ bit i S && (not (ltb i (tableOf s .constants)) && (sameRole (atomRow (tableOf s) i .role) (atomRow (tableOf s) j .role) && fb (atomRow (tableOf s) i .filler) (atomRow (tableOf s) j .filler)))
-      opened i = ap (λ b. bit i S && b) (atom-restriction sameRole (tableOf s) fb i j in-rows)
+      opened i = ap (λ b. bit i S && b) (atom-restriction (roleOrder (tableOf s)) (tableOf s) fb i j in-rows)
 
       low : (i : ℕ) → i < c → ask i ≡ false
       low i k = opened i ∙ rw (lt-ltb i (tableOf s .constants) (subst (λ (n : ℕ). i < n) (sym (constant-count s a c e g)) k)) (and-false (bit i S))
@@ -374,7 +374,7 @@ missing-atoms s a c e q d L R =
     itself : (j : ℕ) → j < c + e → bit j L ≡ true → setBelow s a d L j ≡ true
     itself j h b =
         unfold setBelow in
-        set-itself sameRole (tableOf s) (layout s (q .readable) .all-declared) a sameRole-refl d L j (subst (λ (n : ℕ). j < n) (sym (atom-count s a c e q)) h) b
+        set-itself (roleOrder (tableOf s)) (tableOf s) (layout s (q .readable) .all-declared) a sameRole-refl d L j (subst (λ (n : ℕ). j < n) (sym (atom-count s a c e q)) h) b
 
 -- a constant is asked by its bit alone: one that is missing decides, and where none is, the restrictions are left
 pub constants-missing : (s : List ℕ) (a : Assignment) (c e : ℕ) → Given s a c e → (d L R : ℕ)
@@ -403,9 +403,9 @@ pub filler-atoms : (s : List ℕ) (a : Assignment) (c e : ℕ) → Given s a c e
 unfolding fillerBelow fillerTest setBelow
 filler-atoms s a c e q zero f g L R n l r = absurd (n refl)
 filler-atoms s a c e q (suc d) f g L R n l r =
-    ap (λ (m : ℕ). allBelow m (λ j. not (bit j (fillerSet a (fillerFrom g))) || setTest sameRole (tableOf s) (fillerTest sameRole (tableOf s) a d) (fillerSet a (fillerFrom f)) j)) (atom-count s a c e q)
-    ∙ ap₂ (λ x y. allBelow (c + e) (λ j. not (bit j y) || setTest sameRole (tableOf s) (fillerTest sameRole (tableOf s) a d) x j)) (sym l) (sym r)
-    ∙ ap (λ (k : ℕ). allBelow (c + e) (λ j. not (bit j R) || setTest sameRole (tableOf s) (fillerTest sameRole (tableOf s) a k) L j)) (less d)
+    ap (λ (m : ℕ). allBelow m (λ j. not (bit j (fillerSet a (fillerFrom g))) || setTest (roleOrder (tableOf s)) (tableOf s) (fillerTest (roleOrder (tableOf s)) (tableOf s) a d) (fillerSet a (fillerFrom f)) j)) (atom-count s a c e q)
+    ∙ ap₂ (λ x y. allBelow (c + e) (λ j. not (bit j y) || setTest (roleOrder (tableOf s)) (tableOf s) (fillerTest (roleOrder (tableOf s)) (tableOf s) a d) x j)) (sym l) (sym r)
+    ∙ ap (λ (k : ℕ). allBelow (c + e) (λ j. not (bit j R) || setTest (roleOrder (tableOf s)) (tableOf s) (fillerTest (roleOrder (tableOf s)) (tableOf s) a k) L j)) (less d)
     ∙ missing-atoms s a c e q (suc d - 1) L R
   where
     less : (k : ℕ) → k ≡ suc k - 1
@@ -414,10 +414,10 @@ filler-atoms s a c e q (suc d) f g L R n l r =
 ----------------------------------------------------------------------------------------------------
 -- A line
 
-pub few-atoms : (s : List ℕ) (c e : ℕ) → T (isReadable (reading s)) → c ≡ byteAt s 5 → e ≡ byteAt s 8 → c + e ≤ 24
-few-atoms s c e ok p q = let h : byteAt s 5 + byteAt s 8 ≤ 24 = layout s ok .few-atoms in omega arith
+pub few-atoms : (s : List ℕ) (c e : ℕ) → T (isReadable (reading s)) → c ≡ headerOf s .c → e ≡ headerOf s .e → c + e ≤ 24
+few-atoms s c e ok p q = let h : headerOf s .c + headerOf s .e ≤ 24 = layout s ok .few-atoms in omega arith
 
-pub given : (s : List ℕ) (a : Assignment) (c e : ℕ) → T (isReadable (reading s)) → length a ≡ 12 → c ≡ byteAt s 5 → e ≡ byteAt s 8 → Given s a c e
+pub given : (s : List ℕ) (a : Assignment) (c e : ℕ) → T (isReadable (reading s)) → length a ≡ 12 → c ≡ headerOf s .c → e ≡ headerOf s .e → Given s a c e
 given s a c e ok m p q =
     record {
       readable = ok;
@@ -428,22 +428,22 @@ given s a c e ok m p q =
       sets = m;
     }
   where
-    inside : (k : ℕ) → k ≡ byteAt s 8 → 10 + 2 * k ≤ length s
+    inside : (k : ℕ) → k ≡ headerOf s .e → 10 + 2 * k ≤ length s
     inside zero u = layout s ok .header-in
     inside (suc k) u = let h : 11 + 2 * k < length s = layout s ok .row-in k (omega arith) in omega arith
 
 -- line n begins at the byte `at`
-module _ (s : List ℕ) (ok : T (isReadable (reading s))) (n at : ℕ) (few : n < byteAt s 9) (begins : at ≡ lineStart s n) where
+module _ (s : List ℕ) (ok : T (isReadable (reading s))) (n at : ℕ) (few : n < headerOf s .m) (begins : at ≡ lineStart s n) where
   left-length : length (lineAt (tableOf s .lines) n .left) ≡ byteAt s at
   left-length = layout s ok .line-left n few ∙ ap (byteAt s) (sym begins)
 
-  left-code : (i : ℕ) → i < byteAt s at → entryOf (byteAt s 5) (byteAt s 8) (byteAt s 7) (byteAt s (at + 1 + i)) ≡ some (getD (lineAt (tableOf s .lines) n .left) i (constant 0))
+  left-code : (i : ℕ) → i < byteAt s at → entryOf (headerOf s .c) (headerOf s .e) (headerOf s .v) (byteAt s (at + 1 + i)) ≡ some (getD (lineAt (tableOf s .lines) n .left) i (constant 0))
   left-code i h =
-      ap (λ (k : ℕ). entryOf (byteAt s 5) (byteAt s 8) (byteAt s 7) (byteAt s (k + 1 + i))) begins
+      ap (λ (k : ℕ). entryOf (headerOf s .c) (headerOf s .e) (headerOf s .v) (byteAt s (k + 1 + i))) begins
       ∙ layout s ok .line-entry n i few (subst (λ (k : ℕ). i < byteAt s k) begins h)
 
-  right-code : entryOf (byteAt s 5) (byteAt s 8) (byteAt s 7) (byteAt s (at + 1 + byteAt s at)) ≡ some (lineAt (tableOf s .lines) n .right)
-  right-code = ap (λ (k : ℕ). entryOf (byteAt s 5) (byteAt s 8) (byteAt s 7) (byteAt s (k + 1 + byteAt s k))) begins ∙ layout s ok .line-right n few
+  right-code : entryOf (headerOf s .c) (headerOf s .e) (headerOf s .v) (byteAt s (at + 1 + byteAt s at)) ≡ some (lineAt (tableOf s .lines) n .right)
+  right-code = ap (λ (k : ℕ). entryOf (headerOf s .c) (headerOf s .e) (headerOf s .v) (byteAt s (k + 1 + byteAt s k))) begins ∙ layout s ok .line-right n few
 
   left-from : (i : ℕ) → i < byteAt s at → entryFrom (byteAt s (at + 1 + i)) ≡ getD (lineAt (tableOf s .lines) n .left) i (constant 0)
   left-from i h = entry-read s (byteAt s (at + 1 + i)) (getD (lineAt (tableOf s .lines) n .left) i (constant 0)) (left-code i h)
@@ -462,7 +462,7 @@ module _ (s : List ℕ) (ok : T (isReadable (reading s))) (n at : ℕ) (few : n 
     right-entry = rw many (right-code ∙ ap some (sym right-from))
 
 -- the union of the first i left entries' sets
-module _ (s : List ℕ) (a : Assignment) (ok : T (isReadable (reading s))) (n at : ℕ) (few : n < byteAt s 9) (begins : at ≡ lineStart s n) (p : ℕ) (many : p ≡ byteAt s at) where
+module _ (s : List ℕ) (a : Assignment) (ok : T (isReadable (reading s))) (n at : ℕ) (few : n < headerOf s .m) (begins : at ≡ lineStart s n) (p : ℕ) (many : p ≡ byteAt s at) where
   pub left-start : 0 ≡ unionTo (tableOf s) a (lineAt (tableOf s .lines) n .left) 0
   unfolding unionTo
   left-start = refl
@@ -481,15 +481,15 @@ module _ (s : List ℕ) (a : Assignment) (ok : T (isReadable (reading s))) (n at
   left-whole i L h l e =
       e ∙ ap (unionTo (tableOf s) a (lineAt (tableOf s .lines) n .left)) (let q : i ≡ p = omega arith in q ∙ many ∙ sym (left-length s ok n at few begins))
 
-pub line-atoms : (s : List ℕ) (a : Assignment) (c e : ℕ) → Given s a c e → T (acyclic (tableOf s) a) → (v : ℕ) → v ≡ byteAt s 7
-    → (n at : ℕ) → n < byteAt s 9 → at ≡ lineStart s n → (p : ℕ) → p ≡ byteAt s at
+pub line-atoms : (s : List ℕ) (a : Assignment) (c e : ℕ) → Given s a c e → T (acyclic (tableOf s) a) → (v : ℕ) → v ≡ headerOf s .v
+    → (n at : ℕ) → n < headerOf s .m → at ≡ lineStart s n → (p : ℕ) → p ≡ byteAt s at
     → (L : ℕ) → L ≡ leftSet (tableOf s) a (lineAt (tableOf s .lines) n .left) → (R : ℕ) → R ≡ entrySet (tableOf s) a (entryFrom (byteAt s (at + 1 + p)))
-    → holds sameRole (tableOf s .rows) (induced (tableOf s) a) (lineAt (tableOf s .lines) n) ≡ allBelow (c + e) (AtomAsk s a v L (bitXor R (bitAnd R L)))
+    → holds (roleOrder (tableOf s)) (tableOf s .rows) (induced (tableOf s) a) (lineAt (tableOf s .lines) n) ≡ allBelow (c + e) (AtomAsk s a v L (bitXor R (bitAnd R L)))
 line-atoms s a c e g calm v many-variables n at few begins p many L union R set =
-    sym (line-rule sameRole (tableOf s) (l .all-declared) a calm (lineAt (tableOf s .lines) n) here)
+    sym (line-rule (roleOrder (tableOf s)) (tableOf s) (l .all-declared) a calm (lineAt (tableOf s .lines) n) here)
     ∙ opened (lineAt (tableOf s .lines) n)
-    ∙ ap₂ (λ (k S : ℕ). allBelow k (λ j. not (bit j S) || leftTest sameRole (tableOf s) a (lineAt (tableOf s .lines) n .left) j)) (atom-count s a c e g) (sym right)
-    ∙ allBelow-same (c + e) (λ j. not (bit j R) || leftTest sameRole (tableOf s) a (lineAt (tableOf s .lines) n .left) j) (λ j. not (bit j R) || setBelow s a v L j) (λ j h. ap (λ b. not (bit j R) || b) (left j))
+    ∙ ap₂ (λ (k S : ℕ). allBelow k (λ j. not (bit j S) || leftTest (roleOrder (tableOf s)) (tableOf s) a (lineAt (tableOf s .lines) n .left) j)) (atom-count s a c e g) (sym right)
+    ∙ allBelow-same (c + e) (λ j. not (bit j R) || leftTest (roleOrder (tableOf s)) (tableOf s) a (lineAt (tableOf s .lines) n .left) j) (λ j. not (bit j R) || setBelow s a v L j) (λ j h. ap (λ b. not (bit j R) || b) (left j))
     ∙ missing-atoms s a c e g v L R
   where
     l : Layout s (tableOf s)
@@ -498,13 +498,13 @@ line-atoms s a c e g calm v many-variables n at few begins p many L union R set 
     here : T (lineDeclared (tableOf s) (lineAt (tableOf s .lines) n))
     here = unfold lineAt in line-declared (tableOf s) (l .all-declared) n _ (subst (λ (k : ℕ). n < k) (sym (l .lines)) few)
 
-    opened : (x : Line) → lineTest sameRole (tableOf s) a x ≡ allBelow (atoms (tableOf s)) (λ j. not (bit j (entrySet (tableOf s) a (x .right))) || leftTest sameRole (tableOf s) a (x .left) j)
+    opened : (x : Line) → lineTest (roleOrder (tableOf s)) (tableOf s) a x ≡ allBelow (atoms (tableOf s)) (λ j. not (bit j (entrySet (tableOf s) a (x .right))) || leftTest (roleOrder (tableOf s)) (tableOf s) a (x .left) j)
     opened x = unfold lineTest in refl
 
-    left : (j : ℕ) → leftTest sameRole (tableOf s) a (lineAt (tableOf s .lines) n .left) j ≡ setBelow s a v L j
+    left : (j : ℕ) → leftTest (roleOrder (tableOf s)) (tableOf s) a (lineAt (tableOf s .lines) n .left) j ≡ setBelow s a v L j
     left j =
-        left-union sameRole (tableOf s) a (lineAt (tableOf s .lines) n .left) j
-        ∙ ap₂ (λ (k S : ℕ). setTest sameRole (tableOf s) (fillerTest sameRole (tableOf s) a k) S j) (l .variables ∙ sym many-variables) (sym union)
+        left-union (roleOrder (tableOf s)) (tableOf s) a (lineAt (tableOf s .lines) n .left) j
+        ∙ ap₂ (λ (k S : ℕ). setTest (roleOrder (tableOf s)) (tableOf s) (fillerTest (roleOrder (tableOf s)) (tableOf s) a k) S j) (l .variables ∙ sym many-variables) (sym union)
         ∙ unfold setBelow in refl
 
     right : R ≡ entrySet (tableOf s) a (lineAt (tableOf s .lines) n .right)

@@ -13,13 +13,12 @@ use mathlib.Core.Option.{some}
 use Prim.Native.Nat.{ℕ, _+_, _*_, _≤_, _<_}
 use lib.Dec.{T}
 use lib.ListN.{length}
-use Rattle.el.specs.Description.{sameRole}
-use Rattle.el.specs.Table.{Filler, topF, constantF, variableF, Entry, constant, restriction, variable}
+use Rattle.el.specs.Table.{Filler, topF, constantF, variableF, Entry, constant, restriction, variable, roleOrder}
 use Rattle.el.specs.Assignment.{Assignment, acyclic}
 use Rattle.table.specs.declared.Kind.{Kind}
 use Rattle.table.specs.declared.Kind.the-variants.{Top, Constant, Restriction, Variable, Other}
 use Rattle.table.specs.Code.{kindOf, fillerOf, entryOf}
-use Rattle.table.specs.Reading.{byteAt, maxAtoms, maxVariables, reading, isReadable, tableOf}
+use Rattle.table.specs.Reading.{maxAtoms, maxVariables, reading, isReadable, tableOf, headerOf}
 use Rattle.table.specs.Layout.{lineStart}
 use Rattle.order.specs.Rule.{setTest, fillerTest}
 
@@ -44,31 +43,31 @@ unfoldable pub entryFrom : ℕ → Entry
 entryFrom b = entryFromKind (kindOf b)
 
 unfoldable pub IsFiller : List ℕ → ℕ → Type 0
-IsFiller s b = fillerOf (byteAt s 5) (byteAt s 7) b ≡ some (fillerFrom b)
+IsFiller s b = fillerOf (headerOf s .c) (headerOf s .v) b ≡ some (fillerFrom b)
 
 unfoldable pub IsEntry : List ℕ → ℕ → Type 0
-IsEntry s b = entryOf (byteAt s 5) (byteAt s 8) (byteAt s 7) b ≡ some (entryFrom b)
+IsEntry s b = entryOf (headerOf s .c) (headerOf s .e) (headerOf s .v) b ≡ some (entryFrom b)
 
 pub record Given (s : List ℕ) (a : Assignment) (c e : ℕ) : Type 0 where
   pub readable : T (isReadable (reading s))
-  pub constants : c ≡ byteAt s 5
-  pub restrictions : e ≡ byteAt s 8
+  pub constants : c ≡ headerOf s .c
+  pub restrictions : e ≡ headerOf s .e
   pub few-atoms : c + e ≤ maxAtoms
   pub rows-in : 10 + 2 * e ≤ length s
   pub sets : length a ≡ maxVariables
 
 pub record LineGiven (s : List ℕ) (a : Assignment) (c e v n at : ℕ) : Type 0 where
   pub readable : T (isReadable (reading s))
-  pub constants : c ≡ byteAt s 5
-  pub restrictions : e ≡ byteAt s 8
-  pub variables : v ≡ byteAt s 7
+  pub constants : c ≡ headerOf s .c
+  pub restrictions : e ≡ headerOf s .e
+  pub variables : v ≡ headerOf s .v
   pub sets : length a ≡ maxVariables
   pub acyclic : T (acyclic (tableOf s) a)
-  pub line : n < byteAt s 9
+  pub line : n < headerOf s .m
   pub begins : at ≡ lineStart s n
 
 unfoldable pub setBelow : List ℕ → Assignment → ℕ → ℕ → ℕ → Bool
-setBelow s a k S j = setTest sameRole (tableOf s) (fillerTest sameRole (tableOf s) a k) S j
+setBelow s a k S j = setTest (roleOrder (tableOf s)) (tableOf s) (fillerTest (roleOrder (tableOf s)) (tableOf s) a k) S j
 
 unfoldable pub fillerBelow : List ℕ → Assignment → ℕ → ℕ → ℕ → Bool
-fillerBelow s a k f g = fillerTest sameRole (tableOf s) a k (fillerFrom f) (fillerFrom g)
+fillerBelow s a k f g = fillerTest (roleOrder (tableOf s)) (tableOf s) a k (fillerFrom f) (fillerFrom g)

@@ -6,11 +6,11 @@
 use table::Kind;
 ghost use mathlib.Core.Path.{_≡_};
 ghost use Prim.Native.Nat.{_+_, _<_};
-ghost use Rattle.el.specs.Description.{sameRole};
+ghost use Rattle.el.specs.Table.{roleOrder};
 ghost use Rattle.el.specs.Test.{anyBelow, bit};
 ghost use Rattle.el.specs.Assignment.{induced};
 ghost use Rattle.el.specs.Meaning.{holds};
-ghost use Rattle.table.specs.Reading.{byteAt, tableOf};
+ghost use Rattle.table.specs.Reading.{tableOf, headerOf};
 ghost use Rattle.table.specs.Layout.{lineAt, lineStart};
 ghost use Rattle.order.specs.Rule.{isConstant, flatTest, fillerSet, entrySet, leftSet};
 ghost use Rattle.order.specs.Given.{fillerFrom, entryFrom, IsFiller, IsEntry, Given, LineGiven, setBelow, fillerBelow};
@@ -48,7 +48,8 @@ fn filler_set(table: &[u8], set: &[u32], c: usize, e: usize, f: u8) -> u32
     }
 }
 
-// The set of an entry of a line: a constant and a restriction are one atom.
+// The set of an entry of a line: a constant and a restriction are one atom. No entry is top or of no range; these two arms are never
+// taken, and answer as for constant 0, the entry that `entryFrom` gives them.
 fn entry_set(table: &[u8], set: &[u32], c: usize, e: usize, x: u8) -> u32
     requires { ⌜ Given (now table) (now set) c e × IsEntry (now table) x ⌝ }
     ensures { λ r. ⌜ r ≡ entrySet (tableOf (now (table .entry))) (now (set .entry)) (entryFrom x) ⌝ }
@@ -150,7 +151,7 @@ fn filler_below(table: &[u8], set: &[u32], c: usize, e: usize, f: u8, g: u8, dep
 
 // The set of the left side of line n, which begins at the byte `at`: the union of its entries' sets.
 fn left_set(table: &[u8], set: &[u32], c: usize, e: usize, n: usize, at: usize) -> u32
-    requires { ⌜ Given (now table) (now set) c e × (n < byteAt (now table) 9) × (at ≡ lineStart (now table) n) ⌝ }
+    requires { ⌜ Given (now table) (now set) c e × (n < headerOf (now table) .m) × (at ≡ lineStart (now table) n) ⌝ }
     ensures { λ r. ⌜ r ≡ leftSet (tableOf (now (table .entry))) (now (set .entry)) (lineAt (tableOf (now (table .entry)) .lines) n .left) ⌝ }
 {
     let p = table::wide(table[at]);
@@ -174,7 +175,7 @@ pub fn line_holds(
     at: usize,
 ) -> bool
     requires { ⌜ LineGiven (now table) (now set) c e v n at ⌝ }
-    ensures { λ r. ⌜ r ≡ holds sameRole (tableOf (now (table .entry)) .rows) (induced (tableOf (now (table .entry))) (now (set .entry))) (lineAt (tableOf (now (table .entry)) .lines) n) ⌝ }
+    ensures { λ r. ⌜ r ≡ holds (roleOrder (tableOf (now (table .entry)))) (tableOf (now (table .entry)) .rows) (induced (tableOf (now (table .entry))) (now (set .entry))) (lineAt (tableOf (now (table .entry)) .lines) n) ⌝ }
 {
     let p = table::wide(table[at]);
     let left = left_set(table, set, c, e, n, at);

@@ -179,43 +179,43 @@ module _ (s : List ℕ) where
 
     module _ (version : versionOne s ≡ true) where
       counts : (z : Step)
-          → z ≡ stepOf (refuseIf (ltb maxRoles (byteAt s 6)) 4 6 (refuseIf (ltb maxVariables (byteAt s 7)) 4 7 (refuseIf (ltb maxAtoms (byteAt s 5 + byteAt s 8)) 4 8 (refuseIf (ltb maxLines (byteAt s 9)) 4 9 (got (headerOf s) 10)))))
+          → z ≡ stepOf (refuseIf (ltb maxRoles (headerOf s .r)) 4 6 (refuseIf (ltb maxVariables (headerOf s .v)) 4 7 (refuseIf (ltb maxAtoms (headerOf s .c + headerOf s .e)) 4 8 (refuseIf (ltb maxLines (headerOf s .m)) 4 9 (got (headerOf s) 10)))))
           → z ≡ stepOf (readHeader s)
       unfolding readHeader
       counts z q = pass-if _ _ _ _ z (le-ltb (length s) 10 h) (pass-if _ _ _ _ z (ap not mark) (pass-if _ _ _ _ z (ap not version) q))
 
-      pub header-roles : maxRoles < byteAt s 6 → Stop 4 6 ≡ stepOf (readHeader s)
-      header-roles w = counts _ (stop-if _ _ _ _ (lt-ltb maxRoles (byteAt s 6) w))
+      pub header-roles : maxRoles < headerOf s .r → Stop 4 6 ≡ stepOf (readHeader s)
+      header-roles w = counts _ (stop-if _ _ _ _ (lt-ltb maxRoles (headerOf s .r) w))
 
-      module _ (roles : byteAt s 6 ≤ maxRoles) where
-        pub header-variables : maxVariables < byteAt s 7 → Stop 4 7 ≡ stepOf (readHeader s)
-        header-variables w = counts _ (pass-if _ _ _ _ _ (le-ltb maxRoles (byteAt s 6) roles) (stop-if _ _ _ _ (lt-ltb maxVariables (byteAt s 7) w)))
+      module _ (roles : headerOf s .r ≤ maxRoles) where
+        pub header-variables : maxVariables < headerOf s .v → Stop 4 7 ≡ stepOf (readHeader s)
+        header-variables w = counts _ (pass-if _ _ _ _ _ (le-ltb maxRoles (headerOf s .r) roles) (stop-if _ _ _ _ (lt-ltb maxVariables (headerOf s .v) w)))
 
-        module _ (variables : byteAt s 7 ≤ maxVariables) where
-          pub header-atoms : maxAtoms < byteAt s 5 + byteAt s 8 → Stop 4 8 ≡ stepOf (readHeader s)
+        module _ (variables : headerOf s .v ≤ maxVariables) where
+          pub header-atoms : maxAtoms < headerOf s .c + headerOf s .e → Stop 4 8 ≡ stepOf (readHeader s)
           header-atoms w =
               counts _
-              (pass-if _ _ _ _ _ (le-ltb maxRoles (byteAt s 6) roles)
-              (pass-if _ _ _ _ _ (le-ltb maxVariables (byteAt s 7) variables)
-              (stop-if _ _ _ _ (lt-ltb maxAtoms (byteAt s 5 + byteAt s 8) w))))
+              (pass-if _ _ _ _ _ (le-ltb maxRoles (headerOf s .r) roles)
+              (pass-if _ _ _ _ _ (le-ltb maxVariables (headerOf s .v) variables)
+              (stop-if _ _ _ _ (lt-ltb maxAtoms (headerOf s .c + headerOf s .e) w))))
 
-          module _ (atoms : byteAt s 5 + byteAt s 8 ≤ maxAtoms) where
-            pub header-lines : maxLines < byteAt s 9 → Stop 4 9 ≡ stepOf (readHeader s)
+          module _ (atoms : headerOf s .c + headerOf s .e ≤ maxAtoms) where
+            pub header-lines : maxLines < headerOf s .m → Stop 4 9 ≡ stepOf (readHeader s)
             header-lines w =
                 counts _
-                (pass-if _ _ _ _ _ (le-ltb maxRoles (byteAt s 6) roles)
-                (pass-if _ _ _ _ _ (le-ltb maxVariables (byteAt s 7) variables)
-                (pass-if _ _ _ _ _ (le-ltb maxAtoms (byteAt s 5 + byteAt s 8) atoms)
-                (stop-if _ _ _ _ (lt-ltb maxLines (byteAt s 9) w)))))
+                (pass-if _ _ _ _ _ (le-ltb maxRoles (headerOf s .r) roles)
+                (pass-if _ _ _ _ _ (le-ltb maxVariables (headerOf s .v) variables)
+                (pass-if _ _ _ _ _ (le-ltb maxAtoms (headerOf s .c + headerOf s .e) atoms)
+                (stop-if _ _ _ _ (lt-ltb maxLines (headerOf s .m) w)))))
 
-            pub header-all : byteAt s 9 ≤ maxLines → Next 10 ≡ stepOf (readHeader s)
+            pub header-all : headerOf s .m ≤ maxLines → Next 10 ≡ stepOf (readHeader s)
             unfolding stepOf
             header-all w =
                 counts _
-                (pass-if _ _ _ _ _ (le-ltb maxRoles (byteAt s 6) roles)
-                (pass-if _ _ _ _ _ (le-ltb maxVariables (byteAt s 7) variables)
-                (pass-if _ _ _ _ _ (le-ltb maxAtoms (byteAt s 5 + byteAt s 8) atoms)
-                (pass-if _ _ _ _ _ (le-ltb maxLines (byteAt s 9) w) refl))))
+                (pass-if _ _ _ _ _ (le-ltb maxRoles (headerOf s .r) roles)
+                (pass-if _ _ _ _ _ (le-ltb maxVariables (headerOf s .v) variables)
+                (pass-if _ _ _ _ _ (le-ltb maxAtoms (headerOf s .c + headerOf s .e) atoms)
+                (pass-if _ _ _ _ _ (le-ltb maxLines (headerOf s .m) w) refl))))
 
 ------------------------------------------------------------------ rows, entries, lines
 

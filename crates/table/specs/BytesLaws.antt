@@ -268,18 +268,18 @@ header-stands s h end q =
     let a = refuse-got (ltb (length s) 10) 1 (length s) _ h end q in
     let b = refuse-got (not (marked s)) 2 0 _ h end (a .1) in
     let d = refuse-got (not (versionOne s)) 3 3 _ h end (b .1) in
-    let r = refuse-got (ltb maxRoles (byteAt s 6)) 4 6 _ h end (d .1) in
-    let v = refuse-got (ltb maxVariables (byteAt s 7)) 4 7 _ h end (r .1) in
-    let e = refuse-got (ltb maxAtoms (byteAt s 5 + byteAt s 8)) 4 8 _ h end (v .1) in
-    let m = refuse-got (ltb maxLines (byteAt s 9)) 4 9 _ h end (e .1) in
+    let r = refuse-got (ltb maxRoles (headerOf s .r)) 4 6 _ h end (d .1) in
+    let v = refuse-got (ltb maxVariables (headerOf s .v)) 4 7 _ h end (r .1) in
+    let e = refuse-got (ltb maxAtoms (headerOf s .c + headerOf s .e)) 4 8 _ h end (v .1) in
+    let m = refuse-got (ltb maxLines (headerOf s .m)) 4 9 _ h end (e .1) in
     let g = got-same (headerOf s) h 10 end (m .1) in
     subst (λ (x : Header). (s ≡ writtenHeader x ++ drop 10 s) × Within x) (g .0) (
       header-bytes s (ltb-false (length s) 10 (a .0)) (true-is (marked s) (not-false (marked s) (b .0))) (true-is (versionOne s) (not-false (versionOne s) (d .0))),
       record {
-        few-roles = ltb-false maxRoles (byteAt s 6) (r .0);
-        few-variables = ltb-false maxVariables (byteAt s 7) (v .0);
-        few-atoms = ltb-false maxAtoms (byteAt s 5 + byteAt s 8) (e .0);
-        few-lines = ltb-false maxLines (byteAt s 9) (m .0);
+        few-roles = ltb-false maxRoles (headerOf s .r) (r .0);
+        few-variables = ltb-false maxVariables (headerOf s .v) (v .0);
+        few-atoms = ltb-false maxAtoms (headerOf s .c + headerOf s .e) (e .0);
+        few-lines = ltb-false maxLines (headerOf s .m) (m .0);
       },
     )
 

@@ -11,35 +11,35 @@ use lib.Dec.{T}
 use lib.ListN.{length, getD}
 use Rattle.el.specs.Table.{constant, Line, Table, rowAt, declared}
 use Rattle.table.specs.Code.{fillerOf, entryOf}
-use Rattle.table.specs.Reading.{byteAt, maxAtoms, maxRoles, maxVariables, maxLines, maxLeft}
+use Rattle.table.specs.Reading.{byteAt, maxAtoms, maxRoles, maxVariables, maxLines, maxLeft, headerOf}
 
 unfoldable pub lineAt : List Line → ℕ → Line
 lineAt lines n = getD lines n (record { left = []; right = constant 0 })
 
 unfoldable pub lineStart : List ℕ → ℕ → ℕ
-lineStart s zero = 10 + 2 * byteAt s 8
+lineStart s zero = 10 + 2 * headerOf s .e
 lineStart s (suc n) = lineStart s n + byteAt s (lineStart s n) + 2
 
 pub record Layout (s : List ℕ) (t : Table) : Type 0 where
-  pub constants : t .constants ≡ byteAt s 5
-  pub roles : t .roles ≡ byteAt s 6
-  pub variables : t .variables ≡ byteAt s 7
-  pub rows : length (t .rows) ≡ byteAt s 8
-  pub lines : length (t .lines) ≡ byteAt s 9
-  pub few-roles : byteAt s 6 ≤ maxRoles
-  pub few-variables : byteAt s 7 ≤ maxVariables
-  pub few-atoms : byteAt s 5 + byteAt s 8 ≤ maxAtoms
-  pub few-lines : byteAt s 9 ≤ maxLines
+  pub constants : t .constants ≡ headerOf s .c
+  pub roles : t .roles ≡ headerOf s .r
+  pub variables : t .variables ≡ headerOf s .v
+  pub rows : length (t .rows) ≡ headerOf s .e
+  pub lines : length (t .lines) ≡ headerOf s .m
+  pub few-roles : headerOf s .r ≤ maxRoles
+  pub few-variables : headerOf s .v ≤ maxVariables
+  pub few-atoms : headerOf s .c + headerOf s .e ≤ maxAtoms
+  pub few-lines : headerOf s .m ≤ maxLines
   pub header-in : 10 ≤ length s
-  pub row-in : (k : ℕ) → k < byteAt s 8 → 11 + 2 * k < length s
-  pub row-role : (k : ℕ) → k < byteAt s 8 → rowAt (t .rows) k .role ≡ byteAt s (10 + 2 * k)
-  pub row-filler : (k : ℕ) → k < byteAt s 8 → fillerOf (byteAt s 5) (byteAt s 7) (byteAt s (11 + 2 * k)) ≡ some (rowAt (t .rows) k .filler)
-  pub line-in : (n : ℕ) → n < byteAt s 9 → lineStart s n + byteAt s (lineStart s n) + 2 ≤ length s
-  pub line-few : (n : ℕ) → n < byteAt s 9 → byteAt s (lineStart s n) ≤ maxLeft
-  pub line-left : (n : ℕ) → n < byteAt s 9 → length (lineAt (t .lines) n .left) ≡ byteAt s (lineStart s n)
-  pub line-entry : (n i : ℕ) → n < byteAt s 9 → i < byteAt s (lineStart s n)
-      → entryOf (byteAt s 5) (byteAt s 8) (byteAt s 7) (byteAt s (lineStart s n + 1 + i)) ≡ some (getD (lineAt (t .lines) n .left) i (constant 0))
-  pub line-right : (n : ℕ) → n < byteAt s 9
-      → entryOf (byteAt s 5) (byteAt s 8) (byteAt s 7) (byteAt s (lineStart s n + 1 + byteAt s (lineStart s n))) ≡ some (lineAt (t .lines) n .right)
-  pub line-end : lineStart s (byteAt s 9) ≡ length s
+  pub row-in : (k : ℕ) → k < headerOf s .e → 11 + 2 * k < length s
+  pub row-role : (k : ℕ) → k < headerOf s .e → rowAt (t .rows) k .role ≡ byteAt s (10 + 2 * k)
+  pub row-filler : (k : ℕ) → k < headerOf s .e → fillerOf (headerOf s .c) (headerOf s .v) (byteAt s (11 + 2 * k)) ≡ some (rowAt (t .rows) k .filler)
+  pub line-in : (n : ℕ) → n < headerOf s .m → lineStart s n + byteAt s (lineStart s n) + 2 ≤ length s
+  pub line-few : (n : ℕ) → n < headerOf s .m → byteAt s (lineStart s n) ≤ maxLeft
+  pub line-left : (n : ℕ) → n < headerOf s .m → length (lineAt (t .lines) n .left) ≡ byteAt s (lineStart s n)
+  pub line-entry : (n i : ℕ) → n < headerOf s .m → i < byteAt s (lineStart s n)
+      → entryOf (headerOf s .c) (headerOf s .e) (headerOf s .v) (byteAt s (lineStart s n + 1 + i)) ≡ some (getD (lineAt (t .lines) n .left) i (constant 0))
+  pub line-right : (n : ℕ) → n < headerOf s .m
+      → entryOf (headerOf s .c) (headerOf s .e) (headerOf s .v) (byteAt s (lineStart s n + 1 + byteAt s (lineStart s n))) ≡ some (lineAt (t .lines) n .right)
+  pub line-end : lineStart s (headerOf s .m) ≡ length s
   pub all-declared : T (declared t)

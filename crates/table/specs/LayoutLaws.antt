@@ -42,7 +42,7 @@ use Rattle.table.specs.Layout.{lineAt, lineStart, Layout}
 abbrev pub after : List ℕ → ℕ → ℕ → ℕ
 after s = along (λ p. p + byteAt s p + 2)
 
-pub start-after : (s : List ℕ) (n : ℕ) → lineStart s n ≡ after s (10 + 2 * byteAt s 8) n
+pub start-after : (s : List ℕ) (n : ℕ) → lineStart s n ≡ after s (10 + 2 * headerOf s .e) n
 unfolding along lineStart
 start-after s zero = refl
 start-after s (suc n) = ap (λ (p : ℕ). p + byteAt s p + 2) (start-after s n)
@@ -183,10 +183,10 @@ module _ (s : List ℕ) (h : Header) where
   pub record HeaderRead : Type 0 where
     pub same : h ≡ headerOf s
     pub inside : 10 ≤ length s
-    pub few-roles : byteAt s 6 ≤ maxRoles
-    pub few-variables : byteAt s 7 ≤ maxVariables
-    pub few-atoms : byteAt s 5 + byteAt s 8 ≤ maxAtoms
-    pub few-lines : byteAt s 9 ≤ maxLines
+    pub few-roles : headerOf s .r ≤ maxRoles
+    pub few-variables : headerOf s .v ≤ maxVariables
+    pub few-atoms : headerOf s .c + headerOf s .e ≤ maxAtoms
+    pub few-lines : headerOf s .m ≤ maxLines
 
   pub header-read : (end : ℕ) → readHeader s ≡ got h end → HeaderRead
   unfolding readHeader
@@ -194,18 +194,18 @@ module _ (s : List ℕ) (h : Header) where
       let a = refuse-got (ltb (length s) 10) 1 (length s) _ h end q in
       let b = refuse-got (not (marked s)) 2 0 _ h end (a .1) in
       let d = refuse-got (not (versionOne s)) 3 3 _ h end (b .1) in
-      let r = refuse-got (ltb maxRoles (byteAt s 6)) 4 6 _ h end (d .1) in
-      let v = refuse-got (ltb maxVariables (byteAt s 7)) 4 7 _ h end (r .1) in
-      let e = refuse-got (ltb maxAtoms (byteAt s 5 + byteAt s 8)) 4 8 _ h end (v .1) in
-      let m = refuse-got (ltb maxLines (byteAt s 9)) 4 9 _ h end (e .1) in
+      let r = refuse-got (ltb maxRoles (headerOf s .r)) 4 6 _ h end (d .1) in
+      let v = refuse-got (ltb maxVariables (headerOf s .v)) 4 7 _ h end (r .1) in
+      let e = refuse-got (ltb maxAtoms (headerOf s .c + headerOf s .e)) 4 8 _ h end (v .1) in
+      let m = refuse-got (ltb maxLines (headerOf s .m)) 4 9 _ h end (e .1) in
       let g = got-same (headerOf s) h 10 end (m .1) in
       record {
         same = sym (g .0);
         inside = ltb-false (length s) 10 (a .0);
-        few-roles = ltb-false maxRoles (byteAt s 6) (r .0);
-        few-variables = ltb-false maxVariables (byteAt s 7) (v .0);
-        few-atoms = ltb-false maxAtoms (byteAt s 5 + byteAt s 8) (e .0);
-        few-lines = ltb-false maxLines (byteAt s 9) (m .0);
+        few-roles = ltb-false maxRoles (headerOf s .r) (r .0);
+        few-variables = ltb-false maxVariables (headerOf s .v) (v .0);
+        few-atoms = ltb-false maxAtoms (headerOf s .c + headerOf s .e) (e .0);
+        few-lines = ltb-false maxLines (headerOf s .m) (m .0);
       }
 
   abbrev theRest : List Row → List Line → ℕ → Read Table
@@ -243,22 +243,22 @@ module _ (s : List ℕ) (h : Header) where
 
 module _ (s : List ℕ) (rows : List Row) (lines : List Line)
     (header : HeaderRead s (headerOf s))
-    (rows-in : RowsRead s (headerOf s) (byteAt s 8) 10 rows (10 + 2 * byteAt s 8))
-    (lines-in : LinesRead s (headerOf s) (byteAt s 9) (10 + 2 * byteAt s 8) lines (after s (10 + 2 * byteAt s 8) (byteAt s 9)))
-    (at-most : length s ≤ after s (10 + 2 * byteAt s 8) (byteAt s 9)) where
-  row-there : (k : ℕ) → k < byteAt s 8 → RowRead s (headerOf s) (10 + 2 * k) (rowAt rows k)
+    (rows-in : RowsRead s (headerOf s) (headerOf s .e) 10 rows (10 + 2 * headerOf s .e))
+    (lines-in : LinesRead s (headerOf s) (headerOf s .m) (10 + 2 * headerOf s .e) lines (after s (10 + 2 * headerOf s .e) (headerOf s .m)))
+    (at-most : length s ≤ after s (10 + 2 * headerOf s .e) (headerOf s .m)) where
+  row-there : (k : ℕ) → k < headerOf s .e → RowRead s (headerOf s) (10 + 2 * k) (rowAt rows k)
   row-there k w = rows-in .each k w
 
-  line-there : (n : ℕ) → n < byteAt s 9 → LineRead s (headerOf s) (lineStart s n) (lineAt lines n)
+  line-there : (n : ℕ) → n < headerOf s .m → LineRead s (headerOf s) (lineStart s n) (lineAt lines n)
   line-there n w = rw start-after (lines-in .each n w)
 
-  rows-end : (k : ℕ) → k ≡ byteAt s 8 → 10 + 2 * k ≤ length s
+  rows-end : (k : ℕ) → k ≡ headerOf s .e → 10 + 2 * k ≤ length s
   rows-end zero e = header .inside
   rows-end (suc k) e = let w = row-there k (omega arith) .inside in omega arith
 
-  starts-in : (n : ℕ) → n ≤ byteAt s 9 → lineStart s n ≤ length s
+  starts-in : (n : ℕ) → n ≤ headerOf s .m → lineStart s n ≤ length s
   unfolding lineStart
-  starts-in zero w = rows-end (byteAt s 8) refl
+  starts-in zero w = rows-end (headerOf s .e) refl
   starts-in (suc n) w = line-there n (omega arith) .inside
 
   abbrev built : Table
@@ -266,16 +266,16 @@ module _ (s : List ℕ) (rows : List Row) (lines : List Line)
 
   row-declared : (k : ℕ) → k < length rows → T (rowDeclared built (rowAt rows k))
   row-declared k w =
-      let there = row-there k (let m : length rows ≡ byteAt s 8 = rows-in .many in omega arith) in
-      let less : rowAt rows k .role < byteAt s 6 = rw (there .role) (there .role-less) in
-      and-make (ltb (rowAt rows k .role) (byteAt s 6)) (fillerDeclared built (rowAt rows k .filler)) (lt→ltb (rowAt rows k .role) (byteAt s 6) less) (filler-declared built (byteAt s (10 + 2 * k + 1)) (rowAt rows k .filler) (there .filler))
+      let there = row-there k (let m : length rows ≡ headerOf s .e = rows-in .many in omega arith) in
+      let less : rowAt rows k .role < headerOf s .r = rw (there .role) (there .role-less) in
+      and-make (ltb (rowAt rows k .role) (headerOf s .r)) (fillerDeclared built (rowAt rows k .filler)) (lt→ltb (rowAt rows k .role) (headerOf s .r) less) (filler-declared built (byteAt s (10 + 2 * k + 1)) (rowAt rows k .filler) (there .filler))
 
   entry-there : (at : ℕ) (x : Entry) → EntryRead s (headerOf s) at x → T (entryDeclared built x)
-  entry-there at x there = entry-declared built (byteAt s at) x (ap (λ (e : ℕ). entryOf (byteAt s 5) e (byteAt s 7) (byteAt s at)) (rows-in .many) ∙ there .entry)
+  entry-there at x there = entry-declared built (byteAt s at) x (ap (λ (e : ℕ). entryOf (headerOf s .c) e (headerOf s .v) (byteAt s at)) (rows-in .many) ∙ there .entry)
 
   line-declared : (n : ℕ) → n < length lines → T (lineDeclared built (lineAt lines n))
   line-declared n w =
-      let there = line-there n (let m : length lines ≡ byteAt s 9 = lines-in .many in omega arith) in
+      let there = line-there n (let m : length lines ≡ headerOf s .m = lines-in .many in omega arith) in
       let many : length (lineAt lines n .left) ≡ byteAt s (lineStart s n) = there .left-many in
       and-make (everyOf (entryDeclared built) (lineAt lines n .left)) (entryDeclared built (lineAt lines n .right))
       (everyOf-all (entryDeclared built) (lineAt lines n .left) (constant 0) (λ i l. entry-there _ _ (there .left-each i (omega arith))))
@@ -303,15 +303,15 @@ module _ (s : List ℕ) (rows : List Row) (lines : List Line)
         header-in = header .inside;
         row-in = λ k w. (let l = row-there k w .inside in omega arith);
         row-role = λ k w. row-there k w .role;
-        row-filler = λ k w. ap (λ (i : ℕ). fillerOf (byteAt s 5) (byteAt s 7) (byteAt s i)) (let e : 11 + 2 * k ≡ 10 + 2 * k + 1 = omega arith in e) ∙ row-there k w .filler;
+        row-filler = λ k w. ap (λ (i : ℕ). fillerOf (headerOf s .c) (headerOf s .v) (byteAt s i)) (let e : 11 + 2 * k ≡ 10 + 2 * k + 1 = omega arith in e) ∙ row-there k w .filler;
         line-in = λ n w. line-there n w .inside;
         line-few = λ n w. line-there n w .few;
         line-left = λ n w. line-there n w .left-many;
         line-entry = λ n i w l. line-there n w .left-each i l .entry;
         line-right = λ n w. line-there n w .right-one .entry;
         line-end =
-            let le : lineStart s (byteAt s 9) ≤ length s = starts-in (byteAt s 9) (omega arith) in
-            let ge : length s ≤ lineStart s (byteAt s 9) = rw start-after at-most in
+            let le : lineStart s (headerOf s .m) ≤ length s = starts-in (headerOf s .m) (omega arith) in
+            let ge : length s ≤ lineStart s (headerOf s .m) = rw start-after at-most in
             omega arith;
         all-declared = built-declared;
       }
@@ -360,7 +360,7 @@ readable-is s q = go (reading s) q
 
 ------------------------------------------------------------------ where lines lie
 
-pub start-first : (s : List ℕ) (e : ℕ) → e ≡ byteAt s 8 → 10 + 2 * e ≡ lineStart s 0
+pub start-first : (s : List ℕ) (e : ℕ) → e ≡ headerOf s .e → 10 + 2 * e ≡ lineStart s 0
 unfolding lineStart
 start-first s e q = ap (λ (k : ℕ). 10 + 2 * k) q
 
@@ -368,5 +368,5 @@ pub start-next : (s : List ℕ) (n at p : ℕ) → at ≡ lineStart s n → p �
 unfolding lineStart
 start-next s n at p e q = ap (λ (k : ℕ). at + k + 2) q ∙ ap (λ (k : ℕ). k + byteAt s k + 2) e ∙ ap (lineStart s) (sym (add-one n))
 
-pub line-inside : (s : List ℕ) → T (isReadable (reading s)) → (n at : ℕ) → n < byteAt s 9 → at ≡ lineStart s n → at + byteAt s at + 2 ≤ length s
+pub line-inside : (s : List ℕ) → T (isReadable (reading s)) → (n at : ℕ) → n < headerOf s .m → at ≡ lineStart s n → at + byteAt s at + 2 ≤ length s
 line-inside s ok n at few begins = subst (λ (k : ℕ). k + byteAt s k + 2 ≤ length s) (sym begins) (layout s ok .line-in n few)

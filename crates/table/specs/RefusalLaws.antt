@@ -107,13 +107,13 @@ module _ (s : List ℕ) where
       (λ f. let mark : T (marked s) = true-is (marked s) (not-false (marked s) f) in
       means-if (not (versionOne s)) 3 3 _ (λ g. wrong-version long mark (false-not (versionOne s) (not-true (versionOne s) g)))
       (λ g. let version : T (versionOne s) = true-is (versionOne s) (not-false (versionOne s) g) in
-      means-if (ltb maxRoles (byteAt s 6)) 4 6 _ (λ i. over-bound long mark version (over-roles (ltb-true maxRoles (byteAt s 6) i)))
-      (λ i. let roles : byteAt s 6 ≤ maxRoles = ltb-false maxRoles (byteAt s 6) i in
-      means-if (ltb maxVariables (byteAt s 7)) 4 7 _ (λ j. over-bound long mark version (over-variables roles (ltb-true maxVariables (byteAt s 7) j)))
-      (λ j. let variables : byteAt s 7 ≤ maxVariables = ltb-false maxVariables (byteAt s 7) j in
-      means-if (ltb maxAtoms (byteAt s 5 + byteAt s 8)) 4 8 _ (λ k. over-bound long mark version (over-atoms roles variables (ltb-true maxAtoms (byteAt s 5 + byteAt s 8) k)))
-      (λ k. let atoms : byteAt s 5 + byteAt s 8 ≤ maxAtoms = ltb-false maxAtoms (byteAt s 5 + byteAt s 8) k in
-      means-if (ltb maxLines (byteAt s 9)) 4 9 _ (λ l. over-bound long mark version (over-lines roles variables atoms (ltb-true maxLines (byteAt s 9) l)))
+      means-if (ltb maxRoles (headerOf s .r)) 4 6 _ (λ i. over-bound long mark version (over-roles (ltb-true maxRoles (headerOf s .r) i)))
+      (λ i. let roles : headerOf s .r ≤ maxRoles = ltb-false maxRoles (headerOf s .r) i in
+      means-if (ltb maxVariables (headerOf s .v)) 4 7 _ (λ j. over-bound long mark version (over-variables roles (ltb-true maxVariables (headerOf s .v) j)))
+      (λ j. let variables : headerOf s .v ≤ maxVariables = ltb-false maxVariables (headerOf s .v) j in
+      means-if (ltb maxAtoms (headerOf s .c + headerOf s .e)) 4 8 _ (λ k. over-bound long mark version (over-atoms roles variables (ltb-true maxAtoms (headerOf s .c + headerOf s .e) k)))
+      (λ k. let atoms : headerOf s .c + headerOf s .e ≤ maxAtoms = ltb-false maxAtoms (headerOf s .c + headerOf s .e) k in
+      means-if (ltb maxLines (headerOf s .m)) 4 9 _ (λ l. over-bound long mark version (over-lines roles variables atoms (ltb-true maxLines (headerOf s .m) l)))
       (λ l. means-got (headerOf s) 10)))))))
 
   module _ (h : Header) where
@@ -259,14 +259,14 @@ module _ (s : List ℕ) where
           if-passed _ _ _ _ (le-ltb (length s) 10 long) ∙ if-passed _ _ _ _ (ap not (is-true (marked s) mark)) ∙ if-passed _ _ _ _ (ap not (is-true (versionOne s) v)) ∙ go o
         where
           go : {at : ℕ} → Over (headerOf s) at
-              → refuseIf (ltb maxRoles (byteAt s 6)) 4 6 (refuseIf (ltb maxVariables (byteAt s 7)) 4 7 (refuseIf (ltb maxAtoms (byteAt s 5 + byteAt s 8)) 4 8 (refuseIf (ltb maxLines (byteAt s 9)) 4 9 (got (headerOf s) 10)))) ≡ refused 4 at
-          go (over-roles w) = if-refused _ _ _ _ (lt-ltb maxRoles (byteAt s 6) w)
-          go (over-variables r w) = if-passed _ _ _ _ (le-ltb maxRoles (byteAt s 6) r) ∙ if-refused _ _ _ _ (lt-ltb maxVariables (byteAt s 7) w)
+              → refuseIf (ltb maxRoles (headerOf s .r)) 4 6 (refuseIf (ltb maxVariables (headerOf s .v)) 4 7 (refuseIf (ltb maxAtoms (headerOf s .c + headerOf s .e)) 4 8 (refuseIf (ltb maxLines (headerOf s .m)) 4 9 (got (headerOf s) 10)))) ≡ refused 4 at
+          go (over-roles w) = if-refused _ _ _ _ (lt-ltb maxRoles (headerOf s .r) w)
+          go (over-variables r w) = if-passed _ _ _ _ (le-ltb maxRoles (headerOf s .r) r) ∙ if-refused _ _ _ _ (lt-ltb maxVariables (headerOf s .v) w)
           go (over-atoms r u w) =
-              if-passed _ _ _ _ (le-ltb maxRoles (byteAt s 6) r) ∙ if-passed _ _ _ _ (le-ltb maxVariables (byteAt s 7) u) ∙ if-refused _ _ _ _ (lt-ltb maxAtoms (byteAt s 5 + byteAt s 8) w)
+              if-passed _ _ _ _ (le-ltb maxRoles (headerOf s .r) r) ∙ if-passed _ _ _ _ (le-ltb maxVariables (headerOf s .v) u) ∙ if-refused _ _ _ _ (lt-ltb maxAtoms (headerOf s .c + headerOf s .e) w)
           go (over-lines r u a w) =
-              if-passed _ _ _ _ (le-ltb maxRoles (byteAt s 6) r) ∙ if-passed _ _ _ _ (le-ltb maxVariables (byteAt s 7) u) ∙ if-passed _ _ _ _ (le-ltb maxAtoms (byteAt s 5 + byteAt s 8) a)
-              ∙ if-refused _ _ _ _ (lt-ltb maxLines (byteAt s 9) w)
+              if-passed _ _ _ _ (le-ltb maxRoles (headerOf s .r) r) ∙ if-passed _ _ _ _ (le-ltb maxVariables (headerOf s .v) u) ∙ if-passed _ _ _ _ (le-ltb maxAtoms (headerOf s .c + headerOf s .e) a)
+              ∙ if-refused _ _ _ _ (lt-ltb maxLines (headerOf s .m) w)
 
   module _ (h : Header) where
     role-missing : (at : ℕ) → length s ≤ at → readRow s h at ≡ refused 1 (length s)

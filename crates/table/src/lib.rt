@@ -4,7 +4,7 @@ ghost use Prim.Native.Nat.{_≤_};
 ghost use lib.Dec.{T};
 ghost use lib.ListN.{length};
 ghost use Rattle.table.specs.Code.{kindOf, fillerOf, entryOf};
-ghost use Rattle.table.specs.Reading.{byteAt, marked, versionOne, headerOf, readHeader, readRow, readRows, readEntry, readEntries, readLine, readLines, readBody, reading, isReadable};
+ghost use Rattle.table.specs.Reading.{marked, versionOne, headerOf, readHeader, readRow, readRows, readEntry, readEntries, readLine, readLines, readBody, reading, isReadable};
 ghost use Rattle.table.specs.Step.{isSome, stepOf, verdictOf};
 ghost use Rattle.table.specs.Layout.{lineStart};
 
@@ -309,7 +309,7 @@ pub fn check(table: &[u8]) -> Verdict
 
 // The byte where line n of a readable table begins; of as many lines as there are, the table's end.
 pub fn line_start(table: &[u8], n: usize) -> usize
-    requires { ⌜ T (isReadable (reading (now table))) × (n ≤ byteAt (now table) 9) ⌝ }
+    requires { ⌜ T (isReadable (reading (now table))) × (n ≤ headerOf (now table) .m) ⌝ }
     ensures { λ r. ⌜ r ≡ lineStart (now (table .entry)) n ⌝ }
 {
     let mut at = HEADER + 2 * wide(table[RESTRICTIONS]);

@@ -27,7 +27,7 @@ use Rattle.table.specs.declared.Kind.{Kind}
 use Rattle.table.specs.declared.Kind.the-variants.{Top, Constant, Restriction, Variable, Other}
 use Rattle.table.specs.declared.Verdict.the-variants.{Refused}
 use Rattle.table.specs.Code.{kindOf, fillerOfKind, fillerOf}
-use Rattle.table.specs.Reading.{byteAt, Reading, refusal, readable, reading, theTable, tableOf, isReadable}
+use Rattle.table.specs.Reading.{byteAt, Reading, refusal, readable, reading, theTable, tableOf, isReadable, headerOf}
 use Rattle.table.specs.Step.{verdictOf}
 use Rattle.table.specs.CodeLaws.{within-some}
 use Rattle.table.specs.LayoutLaws.{layout, refused-readable}
@@ -53,21 +53,21 @@ filler-text c v b f q = go (kindOf b) q
     go Other e = absurd (Option·none-ne-some f e)
 
 module _ (s : List ℕ) (ok : T (isReadable (reading s))) where
-  pub row-in : (k : ℕ) → k < byteAt s 8 → 11 + 2 * k < length s
+  pub row-in : (k : ℕ) → k < headerOf s .e → 11 + 2 * k < length s
   row-in = layout s ok .row-in
 
-  pub row-text : (k role code : ℕ) → k < byteAt s 8 → role ≡ byteAt s (10 + 2 * k) → code ≡ byteAt s (10 + 2 * k + 1)
+  pub row-text : (k role code : ℕ) → k < headerOf s .e → role ≡ byteAt s (10 + 2 * k) → code ≡ byteAt s (10 + 2 * k + 1)
       → (0x72 ∷ decimal role) ++ ((0x2E ∷ []) ++ codeText (kindOf code)) ≡ rowText (rowAt (tableOf s .rows) k)
   unfolding rowText
   row-text k role code h p q =
       ap₂ (λ (d f : List ℕ). 0x72 ∷ (d ++ (0x2E ∷ f))) (ap decimal (p ∙ sym (layout s ok .row-role k h)))
-      (ap (λ (x : ℕ). codeText (kindOf x)) (q ∙ ap (byteAt s) (let z : 10 + 2 * k + 1 ≡ 11 + 2 * k = omega arith in z)) ∙ filler-text (byteAt s 5) (byteAt s 7) (byteAt s (11 + 2 * k)) _ (layout s ok .row-filler k h))
+      (ap (λ (x : ℕ). codeText (kindOf x)) (q ∙ ap (byteAt s) (let z : 10 + 2 * k + 1 ≡ 11 + 2 * k = omega arith in z)) ∙ filler-text (headerOf s .c) (headerOf s .v) (byteAt s (11 + 2 * k)) _ (layout s ok .row-filler k h))
 
-  pub atom-constant : (i c : ℕ) → c ≡ byteAt s 5 → i < c → constantText i ≡ atomText (tableOf s) i
+  pub atom-constant : (i c : ℕ) → c ≡ headerOf s .c → i < c → constantText i ≡ atomText (tableOf s) i
   unfolding atomText
   atom-constant i c e h = sym (ap (λ (b : Bool). elim b [ true ↦ constantText i | false ↦ rowText (rowAt (tableOf s .rows) (i - tableOf s .constants)) ]) (lt-ltb i (tableOf s .constants) (omega (arith, layout s ok .constants))))
 
-  pub atom-row : (i c : ℕ) → c ≡ byteAt s 5 → c ≤ i → rowText (rowAt (tableOf s .rows) (i - c)) ≡ atomText (tableOf s) i
+  pub atom-row : (i c : ℕ) → c ≡ headerOf s .c → c ≤ i → rowText (rowAt (tableOf s .rows) (i - c)) ≡ atomText (tableOf s) i
   unfolding atomText
   atom-row i c e h =
       ap (λ (k : ℕ). rowText (rowAt (tableOf s .rows) (i - k))) (e ∙ sym (layout s ok .constants))
@@ -76,15 +76,15 @@ module _ (s : List ℕ) (ok : T (isReadable (reading s))) where
   pub header-in : 10 ≤ length s
   header-in = layout s ok .header-in
 
-  pub few-atoms : byteAt s 5 + byteAt s 8 ≤ 24
+  pub few-atoms : headerOf s .c + headerOf s .e ≤ 24
   few-atoms = layout s ok .few-atoms
 
   -- a loop over all atoms has come to its end
-  pub atoms-left : (c e i : ℕ) → c ≡ byteAt s 5 → e ≡ byteAt s 8 → i ≤ c + e → c + e ≤ i → i ≡ atoms (tableOf s)
+  pub atoms-left : (c e i : ℕ) → c ≡ headerOf s .c → e ≡ headerOf s .e → i ≤ c + e → c + e ≤ i → i ≡ atoms (tableOf s)
   unfolding atoms
   atoms-left c e i p q h l = omega (arith, layout s ok .constants, layout s ok .rows)
 
-  pub variables-are : tableOf s .variables ≡ byteAt s 7
+  pub variables-are : tableOf s .variables ≡ headerOf s .v
   variables-are = layout s ok .variables
 
 ------------------------------------------------------------------ sets

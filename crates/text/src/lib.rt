@@ -9,7 +9,7 @@ ghost use lib.ListN.{length};
 ghost use Rattle.el.specs.Test.{bit};
 ghost use Rattle.el.specs.Table.{rowAt};
 ghost use Rattle.table.specs.Code.{kindOf};
-ghost use Rattle.table.specs.Reading.{byteAt, reading, tableOf, isReadable};
+ghost use Rattle.table.specs.Reading.{byteAt, reading, tableOf, isReadable, headerOf};
 ghost use Rattle.text.specs.Append.{Appended};
 ghost use Rattle.text.specs.Text.{digit, decimal, numbersText, bytesText, hexText};
 ghost use Rattle.output.specs.Written.{setIn};
@@ -143,7 +143,7 @@ fn put_filler(code: u8, buffer: &mut [u8], at: usize) -> usize
 
 // Restriction k: its role and its filler.
 fn put_row(table: &[u8], k: usize, buffer: &mut [u8], at: usize) -> usize
-    requires { ⌜ T (isReadable (reading (now table))) × (k < byteAt (now table) 8) ⌝ }
+    requires { ⌜ T (isReadable (reading (now table))) × (k < headerOf (now table) .e) ⌝ }
     ensures { λ r. ⌜ Appended (now (buffer .entry)) at (rowText (rowAt (tableOf (now (table .entry)) .rows) k)) (now (buffer .exit)) r ⌝ }
 {
     let place = table::HEADER + 2 * k;
@@ -155,7 +155,7 @@ fn put_row(table: &[u8], k: usize, buffer: &mut [u8], at: usize) -> usize
 
 // Atom i.
 fn put_atom(table: &[u8], i: usize, buffer: &mut [u8], at: usize) -> usize
-    requires { ⌜ T (isReadable (reading (now table))) × (i < byteAt (now table) 5 + byteAt (now table) 8) ⌝ }
+    requires { ⌜ T (isReadable (reading (now table))) × (i < headerOf (now table) .c + headerOf (now table) .e) ⌝ }
     ensures { λ r. ⌜ Appended (now (buffer .entry)) at (atomText (tableOf (now (table .entry))) i) (now (buffer .exit)) r ⌝ }
 {
     let constants = byte_at(table, table::CONSTANTS);
@@ -184,7 +184,7 @@ fn either(a: bool, b: bool) -> bool
 
 // Atom i, where the set has it, behind those that were written already.
 fn put_atom_of(table: &[u8], set: u32, i: usize, later: bool, buffer: &mut [u8], at: usize) -> usize
-    requires { ⌜ T (isReadable (reading (now table))) × (i < byteAt (now table) 5 + byteAt (now table) 8) ⌝ }
+    requires { ⌜ T (isReadable (reading (now table))) × (i < headerOf (now table) .c + headerOf (now table) .e) ⌝ }
     ensures { λ r. ⌜ Appended (now (buffer .entry)) at (atomOf (tableOf (now (table .entry))) set i later) (now (buffer .exit)) r ⌝ }
 {
     if !in_set(set, i) {

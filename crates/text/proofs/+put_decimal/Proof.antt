@@ -24,96 +24,6 @@ abbrev put-decimal-below : ℕ → In 1 put-decimal-kinds.ps
 put-decimal-below t =
     and 1 put-decimal-kinds.ps (falls 1 put-decimal-kinds.ps _<_ μ-put-decimal t) put-decimal.Pre
 
-put-decimal-digit-of-requires : (t : ℕ) → put-decimal-lts.Need-digit-of-requires (
-  digit-of-reads.Asked,
-  digit-of-reads.Learnt,
-  put-byte-reads.Asked,
-  put-byte-reads.Learnt,
-  put-decimal-below t,
-  put-decimal.Post,
-) (put-decimal-at t) put-decimal.Post
-put-decimal-digit-of-requires t c κs = search needs
-
-put-decimal-put-byte-requires : (t : ℕ) → put-decimal-lts.Need-put-byte-requires (
-  digit-of-reads.Asked,
-  digit-of-reads.Learnt,
-  put-byte-reads.Asked,
-  put-byte-reads.Learnt,
-  put-decimal-below t,
-  put-decimal.Post,
-) (put-decimal-at t) put-decimal.Post
-put-decimal-put-byte-requires t c κs = search needs
-
-put-decimal-same-length : (t : ℕ) → put-decimal-lts.Need-same-length (
-  digit-of-reads.Asked,
-  digit-of-reads.Learnt,
-  put-byte-reads.Asked,
-  put-byte-reads.Learnt,
-  put-decimal-below t,
-  put-decimal.Post,
-) (put-decimal-at t) put-decimal.Post
-put-decimal-same-length t c = search needs
-
-put-decimal-returns : (t : ℕ) → put-decimal-lts.Need-returns (
-  digit-of-reads.Asked,
-  digit-of-reads.Learnt,
-  put-byte-reads.Asked,
-  put-byte-reads.Learnt,
-  put-decimal-below t,
-  put-decimal.Post,
-) (put-decimal-at t) put-decimal.Post
-put-decimal-returns t c = decimal-one _ (omega arith) (c .before .before .before .before .digit-of .ensures) (c .before .before .put-byte .ensures)
-
-put-decimal-put-decimal-requires : (t : ℕ) → put-decimal-lts.Need-put-decimal-requires (
-  digit-of-reads.Asked,
-  digit-of-reads.Learnt,
-  put-byte-reads.Asked,
-  put-byte-reads.Learnt,
-  put-decimal-below t,
-  put-decimal.Post,
-) (put-decimal-at t) put-decimal.Post
-put-decimal-put-decimal-requires t c κs = omega arith
-
-put-decimal-digit-of-requires-2 : (t : ℕ) → put-decimal-lts.Need-digit-of-requires-2 (
-  digit-of-reads.Asked,
-  digit-of-reads.Learnt,
-  put-byte-reads.Asked,
-  put-byte-reads.Learnt,
-  put-decimal-below t,
-  put-decimal.Post,
-) (put-decimal-at t) put-decimal.Post
-put-decimal-digit-of-requires-2 t c κs = search needs
-
-put-decimal-put-byte-requires-2 : (t : ℕ) → put-decimal-lts.Need-put-byte-requires-2 (
-  digit-of-reads.Asked,
-  digit-of-reads.Learnt,
-  put-byte-reads.Asked,
-  put-byte-reads.Learnt,
-  put-decimal-below t,
-  put-decimal.Post,
-) (put-decimal-at t) put-decimal.Post
-put-decimal-put-byte-requires-2 t c κs = search needs
-
-put-decimal-same-length-2 : (t : ℕ) → put-decimal-lts.Need-same-length-2 (
-  digit-of-reads.Asked,
-  digit-of-reads.Learnt,
-  put-byte-reads.Asked,
-  put-byte-reads.Learnt,
-  put-decimal-below t,
-  put-decimal.Post,
-) (put-decimal-at t) put-decimal.Post
-put-decimal-same-length-2 t c = search needs
-
-put-decimal-returns-2 : (t : ℕ) → put-decimal-lts.Need-returns-2 (
-  digit-of-reads.Asked,
-  digit-of-reads.Learnt,
-  put-byte-reads.Asked,
-  put-byte-reads.Learnt,
-  put-decimal-below t,
-  put-decimal.Post,
-) (put-decimal-at t) put-decimal.Post
-put-decimal-returns-2 t c = decimal-then _ (omega arith) (c .before .before .before .before .before .before .before .put-decimal .ensures) (c .before .before .before .before .digit-of2 .ensures) (c .before .before .put-byte2 .ensures)
-
 pub +put-decimal-spec : {M : Type 1} → statement M
 +put-decimal-spec = close μ-put-decimal λ t. put-decimal-lts.spec (
   digit-of-reads.Asked,
@@ -125,12 +35,12 @@ pub +put-decimal-spec : {M : Type 1} → statement M
 )
     (put-decimal-at t)
     put-decimal.Post
-    (put-decimal-digit-of-requires t)
-    (put-decimal-put-byte-requires t)
-    (put-decimal-same-length t)
-    (put-decimal-returns t)
-    (put-decimal-put-decimal-requires t)
-    (put-decimal-digit-of-requires-2 t)
-    (put-decimal-put-byte-requires-2 t)
-    (put-decimal-same-length-2 t)
-    (put-decimal-returns-2 t)
+    (λ c κs. search needs)
+    (λ c κs. search needs)
+    (λ c. search needs)
+    (λ c. decimal-one _ (omega arith) (c .before .before .before .before .digit-of .ensures) (c .before .before .put-byte .ensures))
+    (λ c κs. omega arith)
+    (λ c κs. search needs)
+    (λ c κs. search needs)
+    (λ c. search needs)
+    (λ c. decimal-then _ (omega arith) (c .before .before .before .before .before .before .before .put-decimal .ensures) (c .before .before .before .before .digit-of2 .ensures) (c .before .before .put-byte2 .ensures))

@@ -29,8 +29,7 @@ use lib.ListN.{length, getD}
 use lib.Bits.{bitOr, bitAnd, bitXor}
 use lib.Pow.{pow-pos, mod-pow-add}
 use borrow.Author.Tests.{eq-eqb, ne-eqb, lt-ltb, le-ltb}
-use Rattle.el.specs.Description.{sameRole}
-use Rattle.el.specs.OrderLaws.{sameRole-refl}
+use Rattle.el.specs.OrderLaws.{roleOrder-refl}
 use Rattle.el.specs.Test.{anyBelow, allBelow, bit}
 use Rattle.el.specs.TestLaws.{is-true, true-is, same-test, false-not, anyBelow-hit, anyBelow-found, anyBelow-none, anyBelow-same, anyBelow-false-at, allBelow-every, allBelow-same, allBelow-true-at, allBelow-false-at}
 use Rattle.el.specs.Table.{Filler, topF, constantF, variableF, Entry, constant, restriction, variable, Line, Table, rowAt, atoms, lineDeclared, roleOrder}
@@ -47,7 +46,7 @@ use Rattle.table.specs.LayoutLaws.{layout}
 use Rattle.order.specs.BitLaws.{power-fits, high-none, bit-missing}
 use Rattle.order.specs.Rule.{fillerSet, entrySet, unionTo, leftSet, atomRow, isConstant, flatTest, atomTest, setTest, fillerTest, leftTest, lineTest}
 use Rattle.order.specs.RuleLaws.{any-one, left-union, set-itself, line-rule}
-use Rattle.order.specs.Given.{fillerFromKind, fillerFrom, entryFromKind, entryFrom, IsFiller, IsEntry, Given, setBelow, fillerBelow}
+use Rattle.order.specs.Given.{fillerFromKind, fillerFrom, entryFromKind, entryFrom, IsFiller, IsEntry, RowsGiven, Given, setBelow, fillerBelow}
 
 ----------------------------------------------------------------------------------------------------
 -- Codes
@@ -186,30 +185,24 @@ module _ (s : List ℕ) (a : Assignment) (c e : ℕ) (g : Given s a c e) where
   row-in : (k : ℕ) → k < e → k < headerOf s .e
   row-in k h = subst (λ (n : ℕ). k < n) (g .restrictions) h
 
-  row-role : (k : ℕ) → k < e → rowAt (tableOf s .rows) k .role ≡ byteAt s (10 + 2 * k)
-  row-role k h = layout s (g .readable) .row-role k (row-in k h)
+  module _ (over inner : List ℕ) (r : RowsGiven s over inner) where
+    row-code : (k : ℕ) → k < e → fillerFrom (getD inner k 0) ≡ rowAt (tableOf s .rows) k .filler
+    row-code k h = filler-read s (getD inner k 0) (rowAt (tableOf s .rows) k .filler) (r .inner-is k (row-in k h))
 
-  row-code : (k : ℕ) → k < e → fillerFrom (byteAt s (11 + 2 * k)) ≡ rowAt (tableOf s .rows) k .filler
-  row-code k h = filler-read s (byteAt s (11 + 2 * k)) (rowAt (tableOf s .rows) k .filler) (layout s (g .readable) .row-filler k (row-in k h))
+    pub row-filler : (k : ℕ) → k < e → IsFiller s (getD inner k 0)
+    unfolding IsFiller
+    row-filler k h = r .inner-is k (row-in k h) ∙ ap some (sym (row-code k h))
 
-  pub row-filler : (k : ℕ) → k < e → IsFiller s (byteAt s (11 + 2 * k))
-  unfolding IsFiller
-  row-filler k h = layout s (g .readable) .row-filler k (row-in k h) ∙ ap some (sym (row-code k h))
+    -- the row of atom i, which is restriction i - c
+    atom-role : (i j : ℕ) → c ≤ i → i < c + e → c ≤ j → j < c + e → roleOrder (tableOf s) (atomRow (tableOf s) i .role) (atomRow (tableOf s) j .role) ≡ bit (i - c) (getD over (j - c) 0)
+    unfolding atomRow
+    atom-role i j h l m n =
+        ap (λ (k : ℕ). roleOrder (tableOf s) (rowAt (tableOf s .rows) (i - k) .role) (rowAt (tableOf s .rows) (j - k) .role)) constant-count
+        ∙ sym (r .over-is (j - c) (i - c) (row-in (j - c) (omega arith)) (row-in (i - c) (omega arith)))
 
-  pub atom-filler-code : (j : ℕ) → c ≤ j → j < c + e → IsFiller s (byteAt s (10 + 2 * (j - c) + 1))
-  atom-filler-code j h l = subst (λ (n : ℕ). IsFiller s (byteAt s n)) (next (j - c)) (row-filler (j - c) (omega arith))
-    where
-      next : (k : ℕ) → 11 + 2 * k ≡ 10 + 2 * k + 1
-      next k = omega arith
-
-  -- the row of atom i, which is restriction i - c
-  atom-role : (i : ℕ) → c ≤ i → i < c + e → atomRow (tableOf s) i .role ≡ byteAt s (10 + 2 * (i - c))
-  unfolding atomRow
-  atom-role i h l = ap (λ (n : ℕ). rowAt (tableOf s .rows) (i - n) .role) constant-count ∙ row-role (i - c) (omega arith)
-
-  atom-filler : (i : ℕ) → c ≤ i → i < c + e → atomRow (tableOf s) i .filler ≡ fillerFrom (byteAt s (11 + 2 * (i - c)))
-  unfolding atomRow
-  atom-filler i h l = ap (λ (n : ℕ). rowAt (tableOf s .rows) (i - n) .filler) constant-count ∙ sym (row-code (i - c) (omega arith))
+    atom-filler : (i : ℕ) → c ≤ i → i < c + e → atomRow (tableOf s) i .filler ≡ fillerFrom (getD inner (i - c) 0)
+    unfolding atomRow
+    atom-filler i h l = ap (λ (n : ℕ). rowAt (tableOf s .rows) (i - n) .filler) constant-count ∙ sym (row-code (i - c) (omega arith))
 
 ----------------------------------------------------------------------------------------------------
 -- A conjunction below an atom
@@ -251,34 +244,34 @@ any-end n i p h l e = let q : n ≡ i = omega arith in rw q e
 pub all-end : (n i : ℕ) (p : ℕ → Bool) → n ≤ i → i ≤ n → allBelow i p ≡ true → allBelow n p ≡ true
 all-end n i p h l e = let q : n ≡ i = omega arith in rw q e
 
--- what is asked of row k: is it in the set S, has it the role, and does its filler lie below the filler g
-unfoldable pub RowAsk : List ℕ → Assignment → ℕ → ℕ → ℕ → ℕ → ℕ → ℕ → Bool
-RowAsk s a c d S role g k = bit (c + k) S && (eqb (byteAt s (10 + 2 * k)) role && fillerBelow s a d (byteAt s (11 + 2 * k)) g)
+-- what is asked of row k: is it in the set S, does its role lie under, and does its filler lie below the filler g
+unfoldable pub RowAsk : List ℕ → List ℕ → Assignment → ℕ → ℕ → ℕ → ℕ → ℕ → ℕ → Bool
+RowAsk s inner a c d S u g k = bit (c + k) S && (bit k u && fillerBelow s a d (getD inner k 0) g)
 
-module _ (s : List ℕ) (a : Assignment) (c d S role g k : ℕ) where
-  pub row-off : bit (c + k) S ≡ false → RowAsk s a c d S role g k ≡ false
+module _ (s inner : List ℕ) (a : Assignment) (c d S u g k : ℕ) where
+  pub row-off : bit (c + k) S ≡ false → RowAsk s inner a c d S u g k ≡ false
   unfolding RowAsk
   row-off e = rw e
 
-  pub row-other : (byteAt s (10 + 2 * k) ≡ role → ⊥) → RowAsk s a c d S role g k ≡ false
+  pub row-other : bit k u ≡ false → RowAsk s inner a c d S u g k ≡ false
   unfolding RowAsk
-  row-other n = rw (ne-eqb (byteAt s (10 + 2 * k)) role n) (and-false (bit (c + k) S))
+  row-other n = rw n (and-false (bit (c + k) S))
 
-  pub row-false : fillerBelow s a d (byteAt s (11 + 2 * k)) g ≡ false → RowAsk s a c d S role g k ≡ false
+  pub row-false : fillerBelow s a d (getD inner k 0) g ≡ false → RowAsk s inner a c d S u g k ≡ false
   unfolding RowAsk
-  row-false e = rw (e, and-false (eqb (byteAt s (10 + 2 * k)) role)) (and-false (bit (c + k) S))
+  row-false e = rw (e, and-false (bit k u)) (and-false (bit (c + k) S))
 
-  pub row-true : bit (c + k) S ≡ true → byteAt s (10 + 2 * k) ≡ role → fillerBelow s a d (byteAt s (11 + 2 * k)) g ≡ true → RowAsk s a c d S role g k ≡ true
+  pub row-true : bit (c + k) S ≡ true → bit k u ≡ true → fillerBelow s a d (getD inner k 0) g ≡ true → RowAsk s inner a c d S u g k ≡ true
   unfolding RowAsk
-  row-true e r f = rw (e, eq-eqb (byteAt s (10 + 2 * k)) role r, f)
+  row-true e r f = rw (e, r, f)
 
   -- no row from k on is in the set
-  pub rows-rest : (e : ℕ) → anyBelow k (RowAsk s a c d S role g) ≡ false → S / 2 ^ (c + k) ≡ 0 → anyBelow e (RowAsk s a c d S role g) ≡ false
+  pub rows-rest : (e : ℕ) → anyBelow k (RowAsk s inner a c d S u g) ≡ false → S / 2 ^ (c + k) ≡ 0 → anyBelow e (RowAsk s inner a c d S u g) ≡ false
   unfolding RowAsk
-  rows-rest e before z = anyBelow-none e (RowAsk s a c d S role g) (λ i h. go i (decLt i k))
+  rows-rest e before z = anyBelow-none e (RowAsk s inner a c d S u g) (λ i h. go i (decLt i k))
     where
-      go : (i : ℕ) → Dec (i < k) → RowAsk s a c d S role g i ≡ false
-      go i (yes l) = anyBelow-false-at k i (RowAsk s a c d S role g) before l
+      go : (i : ℕ) → Dec (i < k) → RowAsk s inner a c d S u g i ≡ false
+      go i (yes l) = anyBelow-false-at k i (RowAsk s inner a c d S u g) before l
       go i (no l) = rw (high-none S (c + k) (c + i) z (omega arith))
 
 module _ (s : List ℕ) (a : Assignment) (c e : ℕ) (g : Given s a c e) (d S j : ℕ) where
@@ -290,14 +283,13 @@ module _ (s : List ℕ) (a : Assignment) (c e : ℕ) (g : Given s a c e) (d S j 
       (λ i l. ap (λ b. bit i S && b) (atom-constant (roleOrder (tableOf s)) (tableOf s) (fillerTest (roleOrder (tableOf s)) (tableOf s) a d) i j (subst (λ (n : ℕ). j < n) (sym (constant-count s a c e g)) h)) ∙ and-comm (bit i S) (eqb i j))
       ∙ any-one (λ i. eqb i j) (λ i. bit i S) (c + e) j (omega arith) (λ i. refl))
 
-  -- below the restriction j: some row of the set has its role, and a filler below its own
-  pub set-rows : c ≤ j → j < c + e → setBelow s a d S j ≡ anyBelow e (RowAsk s a c d S (byteAt s (10 + 2 * (j - c))) (byteAt s (10 + 2 * (j - c) + 1)))
-  unfolding setBelow setTest RowAsk fillerBelow sameRole
-  set-rows h l =
+  -- below the restriction j: some row of the set has a role under its own, and a filler below its own
+  pub set-rows : (over inner : List ℕ) → RowsGiven s over inner → c ≤ j → j < c + e → setBelow s a d S j ≡ anyBelow e (RowAsk s inner a c d S (getD over (j - c) 0) (getD inner (j - c) 0))
+  unfolding setBelow setTest RowAsk fillerBelow
+  set-rows over inner r h l =
       ap (λ (n : ℕ). anyBelow n ask) (atom-count s a c e g)
       ∙ any-from c e ask low
-      ∙ anyBelow-same e (λ k. ask (c + k)) (RowAsk s a c d S (byteAt s (10 + 2 * (j - c))) (byteAt s (11 + 2 * (j - c)))) same
-      ∙ ap (λ (n : ℕ). anyBelow e (RowAsk s a c d S (byteAt s (10 + 2 * (j - c))) (byteAt s n))) (next (j - c))
+      ∙ anyBelow-same e (λ k. ask (c + k)) (RowAsk s inner a c d S (getD over (j - c) 0) (getD inner (j - c) 0)) same
     where
       fb : Filler → Filler → Bool
       fb = fillerTest (roleOrder (tableOf s)) (tableOf s) a d
@@ -308,26 +300,23 @@ module _ (s : List ℕ) (a : Assignment) (c e : ℕ) (g : Given s a c e) (d S j 
       in-rows : tableOf s .constants ≤ j
       in-rows = subst (λ (n : ℕ). n ≤ j) (sym (constant-count s a c e g)) h
 
-      opened : (i : ℕ) → ask i ≡ bit i S && (not (ltb i (tableOf s .constants)) && (sameRole (atomRow (tableOf s) i .role) (atomRow (tableOf s) j .role) && fb (atomRow (tableOf s) i .filler) (atomRow (tableOf s) j .filler)))
+      opened : (i : ℕ) → ask i ≡ bit i S && (not (ltb i (tableOf s .constants)) && (roleOrder (tableOf s) (atomRow (tableOf s) i .role) (atomRow (tableOf s) j .role) && fb (atomRow (tableOf s) i .filler) (atomRow (tableOf s) j .filler)))
       opened i = ap (λ b. bit i S && b) (atom-restriction (roleOrder (tableOf s)) (tableOf s) fb i j in-rows)
 
       low : (i : ℕ) → i < c → ask i ≡ false
       low i k = opened i ∙ rw (lt-ltb i (tableOf s .constants) (subst (λ (n : ℕ). i < n) (sym (constant-count s a c e g)) k)) (and-false (bit i S))
 
-      next : (k : ℕ) → 11 + 2 * k ≡ 10 + 2 * k + 1
-      next k = omega arith
-
       back : (k : ℕ) → c + k - c ≡ k
       back k = omega arith
 
-      same : (k : ℕ) → k < e → ask (c + k) ≡ RowAsk s a c d S (byteAt s (10 + 2 * (j - c))) (byteAt s (11 + 2 * (j - c))) k
+      same : (k : ℕ) → k < e → ask (c + k) ≡ RowAsk s inner a c d S (getD over (j - c) 0) (getD inner (j - c) 0) k
       same k m =
           opened (c + k)
-          ∙ ap (λ b. bit (c + k) S && (not b && (sameRole (atomRow (tableOf s) (c + k) .role) (atomRow (tableOf s) j .role) && fb (atomRow (tableOf s) (c + k) .filler) (atomRow (tableOf s) j .filler))))
+          ∙ ap (λ b. bit (c + k) S && (not b && (roleOrder (tableOf s) (atomRow (tableOf s) (c + k) .role) (atomRow (tableOf s) j .role) && fb (atomRow (tableOf s) (c + k) .filler) (atomRow (tableOf s) j .filler))))
           (le-ltb (c + k) (tableOf s .constants) (subst (λ (n : ℕ). n ≤ c + k) (sym (constant-count s a c e g)) (omega arith)))
           ∙ ap₂ (λ x y. bit (c + k) S && (x && y))
-          (ap₂ sameRole (atom-role s a c e g (c + k) (omega arith) (omega arith) ∙ ap (λ (n : ℕ). byteAt s (10 + 2 * n)) (back k)) (atom-role s a c e g j h l))
-          (ap₂ fb (atom-filler s a c e g (c + k) (omega arith) (omega arith) ∙ ap (λ (n : ℕ). fillerFrom (byteAt s (11 + 2 * n))) (back k)) (atom-filler s a c e g j h l))
+          (atom-role s a c e g over inner r (c + k) j (omega arith) (omega arith) h l ∙ ap (λ (n : ℕ). bit n (getD over (j - c) 0)) (back k))
+          (ap₂ fb (atom-filler s a c e g over inner r (c + k) (omega arith) (omega arith) ∙ ap (λ (n : ℕ). fillerFrom (getD inner n 0)) (back k)) (atom-filler s a c e g over inner r j h l))
 
 ----------------------------------------------------------------------------------------------------
 -- A filler below a filler
@@ -374,7 +363,7 @@ missing-atoms s a c e q d L R =
     itself : (j : ℕ) → j < c + e → bit j L ≡ true → setBelow s a d L j ≡ true
     itself j h b =
         unfold setBelow in
-        set-itself (roleOrder (tableOf s)) (tableOf s) (layout s (q .readable) .all-declared) a sameRole-refl d L j (subst (λ (n : ℕ). j < n) (sym (atom-count s a c e q)) h) b
+        set-itself (roleOrder (tableOf s)) (tableOf s) (layout s (q .readable) .all-declared) a (roleOrder-refl (tableOf s)) d L j (subst (λ (n : ℕ). j < n) (sym (atom-count s a c e q)) h) b
 
 -- a constant is asked by its bit alone: one that is missing decides, and where none is, the restrictions are left
 pub constants-missing : (s : List ℕ) (a : Assignment) (c e : ℕ) → Given s a c e → (d L R : ℕ)
@@ -424,13 +413,8 @@ given s a c e ok m p q =
       constants = p;
       restrictions = q;
       few-atoms = few-atoms s c e ok p q;
-      rows-in = inside e q;
       sets = m;
     }
-  where
-    inside : (k : ℕ) → k ≡ headerOf s .e → 10 + 2 * k ≤ length s
-    inside zero u = layout s ok .header-in
-    inside (suc k) u = let h : 11 + 2 * k < length s = layout s ok .row-in k (omega arith) in omega arith
 
 -- line n begins at the byte `at`
 module _ (s : List ℕ) (ok : T (isReadable (reading s))) (n at : ℕ) (few : n < headerOf s .m) (begins : at ≡ lineStart s n) where

@@ -2,18 +2,20 @@
 --
 --   fillerFrom b, entryFrom b  == the filler, the entry that the code b writes, declared or not
 --   IsFiller s b, IsEntry s b  == the code b writes a filler, an entry that the table s declares
+--   RowsGiven s over inner     == bit k of `over j` says that row k's role lies under row j's, and `inner k` is the code of row k's filler
 --   Given s a c e              == s is a readable table with c constants and e restrictions, a has a set for each variable
---   LineGiven s a c e v n at   == s is a readable table with the counts c, e and v, a is acyclic, line n begins at the byte `at`
+--   LineGiven s over inner a c e v n at == s is a readable table with the counts c, e and v, a is acyclic, line n begins at the byte `at`
 --   setBelow s a k S j         == the conjunction of the set S lies below atom j, where k dependences are left
 --   fillerBelow s a k f g      == the filler of the code f lies below the filler of the code g, where k dependences are left
 use mathlib.Core.Path.{_≡_}
 use mathlib.Core.Bool.{Bool}
 use mathlib.Core.List.{List}
 use mathlib.Core.Option.{some}
-use Prim.Native.Nat.{ℕ, _+_, _*_, _≤_, _<_}
+use Prim.Native.Nat.{ℕ, _+_, _≤_, _<_}
 use lib.Dec.{T}
-use lib.ListN.{length}
-use Rattle.el.specs.Table.{Filler, topF, constantF, variableF, Entry, constant, restriction, variable, roleOrder}
+use lib.ListN.{length, getD}
+use Rattle.el.specs.Test.{bit}
+use Rattle.el.specs.Table.{Filler, topF, constantF, variableF, Entry, constant, restriction, variable, roleOrder, rowAt}
 use Rattle.el.specs.Assignment.{Assignment, acyclic}
 use Rattle.table.specs.declared.Kind.{Kind}
 use Rattle.table.specs.declared.Kind.the-variants.{Top, Constant, Restriction, Variable, Other}
@@ -48,21 +50,28 @@ IsFiller s b = fillerOf (headerOf s .c) (headerOf s .v) b ≡ some (fillerFrom b
 unfoldable pub IsEntry : List ℕ → ℕ → Type 0
 IsEntry s b = entryOf (headerOf s .c) (headerOf s .e) (headerOf s .v) b ≡ some (entryFrom b)
 
+pub record RowsGiven (s over inner : List ℕ) : Type 0 where
+  pub over-many : length over ≡ maxAtoms
+  pub inner-many : length inner ≡ maxAtoms
+  pub over-is : (j k : ℕ) → j < headerOf s .e → k < headerOf s .e
+      → bit k (getD over j 0) ≡ roleOrder (tableOf s) (rowAt (tableOf s .rows) k .role) (rowAt (tableOf s .rows) j .role)
+  pub inner-is : (k : ℕ) → k < headerOf s .e → fillerOf (headerOf s .c) (headerOf s .v) (getD inner k 0) ≡ some (rowAt (tableOf s .rows) k .filler)
+
 pub record Given (s : List ℕ) (a : Assignment) (c e : ℕ) : Type 0 where
   pub readable : T (isReadable (reading s))
   pub constants : c ≡ headerOf s .c
   pub restrictions : e ≡ headerOf s .e
   pub few-atoms : c + e ≤ maxAtoms
-  pub rows-in : 10 + 2 * e ≤ length s
   pub sets : length a ≡ maxVariables
 
-pub record LineGiven (s : List ℕ) (a : Assignment) (c e v n at : ℕ) : Type 0 where
+pub record LineGiven (s over inner : List ℕ) (a : Assignment) (c e v n at : ℕ) : Type 0 where
   pub readable : T (isReadable (reading s))
   pub constants : c ≡ headerOf s .c
   pub restrictions : e ≡ headerOf s .e
   pub variables : v ≡ headerOf s .v
   pub sets : length a ≡ maxVariables
   pub acyclic : T (acyclic (tableOf s) a)
+  pub rows : RowsGiven s over inner
   pub line : n < headerOf s .m
   pub begins : at ≡ lineStart s n
 

@@ -1,6 +1,7 @@
 // The test of one line at a node.
 //
-// Given are a readable table, its counts c, e and v, and the set number of each variable. The two questions ask each
+// Given are a readable table, its counts c, e and v, its rows as two small tables (`over`: which rows' roles lie under row j's; `inner`: the
+// codes of the fillers), and the set number of each variable. The two questions ask each
 // other: whether a conjunction, given as a set number, lies below one atom, and whether one filler lies below another.
 // Each time the second asks the first, one dependence less is left.
 use table::Kind;
@@ -13,10 +14,7 @@ ghost use Rattle.el.specs.Meaning.{holds};
 ghost use Rattle.table.specs.Reading.{tableOf, headerOf};
 ghost use Rattle.table.specs.Layout.{lineAt, lineStart};
 ghost use Rattle.order.specs.Rule.{isConstant, flatTest, fillerSet, entrySet, leftSet};
-ghost use Rattle.order.specs.Given.{fillerFrom, entryFrom, IsFiller, IsEntry, Given, LineGiven, setBelow, fillerBelow};
-
-// Where the restriction rows begin.
-const ROWS: usize = table::HEADER;
+ghost use Rattle.order.specs.Given.{fillerFrom, entryFrom, IsFiller, IsEntry, RowsGiven, Given, LineGiven, setBelow, fillerBelow};
 
 // Bit i of the set number s.
 fn bit_of(s: u32, i: usize) -> bool
@@ -90,16 +88,26 @@ fn flat_below(f: u8, g: u8) -> bool
 }
 
 // The conjunction of the set s lies below atom j: one of its atoms does.
-fn set_below(table: &[u8], set: &[u32], c: usize, e: usize, s: u32, j: usize, depth: usize) -> bool
-    requires { ⌜ Given (now table) (now set) c e × (j < c + e) ⌝ }
+fn set_below(
+    table: &[u8],
+    over: &[u32],
+    inner: &[u8],
+    set: &[u32],
+    c: usize,
+    e: usize,
+    s: u32,
+    j: usize,
+    depth: usize,
+) -> bool
+    requires { ⌜ Given (now table) (now set) c e × (j < c + e) × RowsGiven (now table) (now over) (now inner) ⌝ }
     ensures { λ r. ⌜ r ≡ setBelow (now (table .entry)) (now (set .entry)) depth s j ⌝ }
 {
     if j < c {
         return bit_of(s, j);
     }
-    let at = ROWS + 2 * (j - c);
-    let role = table[at];
-    let filler = table[at + 1];
+    let row = j - c;
+    let under = over[row];
+    let filler = inner[row];
     let mut k = 0;
     while k < e {
         let rest = s >> (c + k);
@@ -107,8 +115,8 @@ fn set_below(table: &[u8], set: &[u32], c: usize, e: usize, s: u32, j: usize, de
             return false;
         }
         if rest % 2 == 1 {
-            if table[ROWS + 2 * k] == role {
-                if filler_below(table, set, c, e, table[ROWS + 1 + 2 * k], filler, depth) {
+            if (under >> k) % 2 == 1 {
+                if filler_below(table, over, inner, set, c, e, inner[k], filler, depth) {
                     return true;
                 }
             }
@@ -120,8 +128,18 @@ fn set_below(table: &[u8], set: &[u32], c: usize, e: usize, s: u32, j: usize, de
 
 // Filler f lies below filler g: the conjunction of f's set lies below each atom of g's. An atom that both sets have lies
 // below itself, so only the missing ones are asked: a constant decides at once, so restrictions are left.
-fn filler_below(table: &[u8], set: &[u32], c: usize, e: usize, f: u8, g: u8, depth: usize) -> bool
-    requires { ⌜ Given (now table) (now set) c e × IsFiller (now table) f × IsFiller (now table) g ⌝ }
+fn filler_below(
+    table: &[u8],
+    over: &[u32],
+    inner: &[u8],
+    set: &[u32],
+    c: usize,
+    e: usize,
+    f: u8,
+    g: u8,
+    depth: usize,
+) -> bool
+    requires { ⌜ Given (now table) (now set) c e × IsFiller (now table) f × IsFiller (now table) g × RowsGiven (now table) (now over) (now inner) ⌝ }
     ensures { λ r. ⌜ r ≡ fillerBelow (now (table .entry)) (now (set .entry)) depth f g ⌝ }
 {
     if depth == 0 {
@@ -140,7 +158,7 @@ fn filler_below(table: &[u8], set: &[u32], c: usize, e: usize, f: u8, g: u8, dep
             return true;
         }
         if rest % 2 == 1 {
-            if !set_below(table, set, c, e, left, j, depth - 1) {
+            if !set_below(table, over, inner, set, c, e, left, j, depth - 1) {
                 return false;
             }
         }
@@ -167,6 +185,8 @@ fn left_set(table: &[u8], set: &[u32], c: usize, e: usize, n: usize, at: usize) 
 // Line n, which begins at the byte `at`, holds under the substitution that the sets induce.
 pub fn line_holds(
     table: &[u8],
+    over: &[u32],
+    inner: &[u8],
     set: &[u32],
     c: usize,
     e: usize,
@@ -174,7 +194,7 @@ pub fn line_holds(
     n: usize,
     at: usize,
 ) -> bool
-    requires { ⌜ LineGiven (now table) (now set) c e v n at ⌝ }
+    requires { ⌜ LineGiven (now table) (now over) (now inner) (now set) c e v n at ⌝ }
     ensures { λ r. ⌜ r ≡ holds (roleOrder (tableOf (now (table .entry)))) (tableOf (now (table .entry)) .rows) (induced (tableOf (now (table .entry))) (now (set .entry))) (lineAt (tableOf (now (table .entry)) .lines) n) ⌝ }
 {
     let p = table::wide(table[at]);
@@ -191,7 +211,7 @@ pub fn line_holds(
             return true;
         }
         if rest % 2 == 1 {
-            if !set_below(table, set, c, e, left, j, v) {
+            if !set_below(table, over, inner, set, c, e, left, j, v) {
                 return false;
             }
         }

@@ -6,7 +6,8 @@
 --   constant-kind, flat-kind            == the flat test, by the kinds of the codes
 --   rows-rest, atoms-rest               == no row, no atom from a number on is in the set
 --   low-bits                            == the rest modulo 2 ^ c says whether one of the first c bits is set
---   row-.., atom-.., constant-count     == what the bytes of a row say, and how many atoms there are
+--   over-.., rows-start, rows-step, rows-whole == the loops that prepare the rows
+--   row-.., atom-.., constant-count     == what the prepared rows say, and how many atoms there are
 --   any-start, any-end, all-end         == a loop over numbers begins, and ends
 --   RowAsk, AtomAsk                     == what is asked of each row, of each atom of the right set
 --   set-constant, set-rows              == a conjunction below a constant, and below a restriction
@@ -23,15 +24,17 @@ use mathlib.Core.List.{List}
 use mathlib.Core.Option.{some, Option·none-ne-some}
 use Prim.Native.Nat.{ℕ, zero, suc, _+_, _-_, _*_, _/_, _%_, _^_, _≤_, _<_}
 use native.Mathlib.Omega.{arith}
-use native.Mathlib.Decide.{decLt}
+use native.Mathlib.Decide.{ℕ-discrete, decLt}
 use lib.Dec.{T, eqb, ltb}
-use lib.ListN.{length, getD}
+use lib.ListN.{length, getD, set, replicate, length-set, length-replicate}
+use lib.Seq.{getD-set-same, getD-set-other}
 use lib.Bits.{bitOr, bitAnd, bitXor}
 use lib.Pow.{pow-pos, mod-pow-add}
 use borrow.Author.Tests.{eq-eqb, ne-eqb, lt-ltb, le-ltb}
 use Rattle.el.specs.OrderLaws.{roleOrder-refl}
+use Rattle.el.specs.Description.{sameRole}
 use Rattle.el.specs.Test.{anyBelow, allBelow, bit}
-use Rattle.el.specs.TestLaws.{is-true, true-is, same-test, false-not, anyBelow-hit, anyBelow-found, anyBelow-none, anyBelow-same, anyBelow-false-at, allBelow-every, allBelow-same, allBelow-true-at, allBelow-false-at}
+use Rattle.el.specs.TestLaws.{is-true, true-is, same-test, false-not, anyBelow-hit, anyBelow-found, anyBelow-none, anyBelow-same, anyBelow-false-at, allBelow-every, allBelow-same, allBelow-true-at, allBelow-false-at, bit-none}
 use Rattle.el.specs.Table.{Filler, topF, constantF, variableF, Entry, constant, restriction, variable, Line, Table, rowAt, atoms, lineDeclared, roleOrder}
 use Rattle.el.specs.TableLaws.{line-declared}
 use Rattle.el.specs.Meaning.{holds}
@@ -40,13 +43,13 @@ use Rattle.table.specs.declared.Kind.{Kind}
 use Rattle.table.specs.declared.Kind.the-variants.{Top, Constant, Restriction, Variable, Other}
 use Rattle.table.specs.Code.{kindOf, fillerOf, fillerOfKind, entryOf, entryOfKind}
 use Rattle.table.specs.Reading.{byteAt, reading, isReadable, tableOf, headerOf}
-use Rattle.table.specs.Layout.{lineAt, lineStart, Layout}
+use Rattle.table.specs.Layout.{lineAt, lineStart, IsRowFiller, Layout}
 use Rattle.table.specs.CodeLaws.{within-some}
 use Rattle.table.specs.LayoutLaws.{layout}
-use Rattle.order.specs.BitLaws.{power-fits, high-none, bit-missing}
+use Rattle.order.specs.BitLaws.{power-fits, bit-power, bit-or, high-none, bit-missing}
 use Rattle.order.specs.Rule.{fillerSet, entrySet, unionTo, leftSet, atomRow, isConstant, flatTest, atomTest, setTest, fillerTest, leftTest, lineTest}
 use Rattle.order.specs.RuleLaws.{any-one, left-union, set-itself, line-rule}
-use Rattle.order.specs.Given.{fillerFromKind, fillerFrom, entryFromKind, entryFrom, IsFiller, IsEntry, RowsGiven, Given, setBelow, fillerBelow}
+use Rattle.order.specs.Given.{fillerFromKind, fillerFrom, entryFromKind, entryFrom, IsFiller, IsEntry, Over, RowsTo, RowsGiven, Given, setBelow, fillerBelow}
 
 ----------------------------------------------------------------------------------------------------
 -- Codes
@@ -172,7 +175,102 @@ low-bits (suc c) S =
     ∙ ap (λ b. b || eqb (S / 2 ^ c % 2) 1) (low-bits c S)
 
 ----------------------------------------------------------------------------------------------------
--- What the bytes of a row say
+-- The rows, prepared
+
+-- one number more among those below n
+next-below : (k n : ℕ) (u : Bool) → (k ≡ n → ⊥) → ltb k n && u ≡ ltb k (n + 1) && u
+next-below k n u f = go (decLt k n)
+  where
+    go : Dec (k < n) → ltb k n && u ≡ ltb k (n + 1) && u
+    go (yes h) = ap (λ b. b && u) (lt-ltb k n h ∙ sym (lt-ltb k (n + 1) (omega arith)))
+    go (no h) = ap (λ b. b && u) (le-ltb k n (omega arith) ∙ sym (le-ltb k (n + 1) (omega arith)))
+
+module _ (s : List ℕ) (j : ℕ) where
+  abbrev role : ℕ → ℕ
+  role k = rowAt (tableOf s .rows) k .role
+
+  pub over-start : Over s j 0 0
+  unfolding Over
+  over-start k = bit-none k ∙ sym (ap (λ b. b && roleOrder (tableOf s) (role k) (role j)) (le-ltb k 0 (omega arith)))
+
+  pub over-hit : (n m a b : ℕ) → n < 32 → a ≡ role n → b ≡ role j → a ≡ b → Over s j n m → Over s j (n + 1) (bitOr m (1 * 2 ^ n % 4294967296))
+  unfolding Over
+  over-hit n m a b h p q e f k = bit-or k m (1 * 2 ^ n % 4294967296) ∙ ap₂ _||_ (f k) (ap (bit k) (power-fits n h) ∙ bit-power k n) ∙ go (ℕ-discrete k n)
+    where
+      same : roleOrder (tableOf s) (role n) (role j) ≡ true
+      same = unfold sameRole in eq-eqb (role n) (role j) (sym p ∙ e ∙ q)
+
+      go : Dec (k ≡ n) → (ltb k n && roleOrder (tableOf s) (role k) (role j)) || eqb k n ≡ ltb k (n + 1) && roleOrder (tableOf s) (role k) (role j)
+      go (yes z) =
+          ap (λ b. (ltb k n && roleOrder (tableOf s) (role k) (role j)) || b) (eq-eqb k n z) ∙ or-true (ltb k n && roleOrder (tableOf s) (role k) (role j))
+          ∙ sym (ap₂ _&&_ (lt-ltb k (n + 1) (omega arith)) (ap (λ (i : ℕ). roleOrder (tableOf s) (role i) (role j)) z ∙ same))
+      go (no z) =
+          ap (λ b. (ltb k n && roleOrder (tableOf s) (role k) (role j)) || b) (ne-eqb k n z) ∙ or-false (ltb k n && roleOrder (tableOf s) (role k) (role j))
+          ∙ next-below k n (roleOrder (tableOf s) (role k) (role j)) z
+
+  pub over-miss : (n m a b : ℕ) → a ≡ role n → b ≡ role j → (a ≡ b → ⊥) → Over s j n m → Over s j (n + 1) m
+  unfolding Over
+  over-miss n m a b p q e f k = f k ∙ go (ℕ-discrete k n)
+    where
+      other : roleOrder (tableOf s) (role n) (role j) ≡ false
+      other = unfold sameRole in ne-eqb (role n) (role j) (λ z. e (p ∙ z ∙ sym q))
+
+      go : Dec (k ≡ n) → ltb k n && roleOrder (tableOf s) (role k) (role j) ≡ ltb k (n + 1) && roleOrder (tableOf s) (role k) (role j)
+      go (yes z) =
+          ap (λ b. b && roleOrder (tableOf s) (role k) (role j)) (le-ltb k n (omega arith))
+          ∙ sym (ap (λ b. ltb k (n + 1) && b) (ap (λ (i : ℕ). roleOrder (tableOf s) (role i) (role j)) z ∙ other) ∙ and-false (ltb k (n + 1)))
+      go (no z) = next-below k n (roleOrder (tableOf s) (role k) (role j)) z
+
+  pub over-whole : (e n m : ℕ) → e ≤ n → n ≤ e → Over s j n m → Over s j e m
+  over-whole e n m h l f = subst (λ (i : ℕ). Over s j i m) (let q : n ≡ e = omega arith in q) f
+
+over-at : (s : List ℕ) (j n m : ℕ) → Over s j n m → (k : ℕ) → k < n → bit k m ≡ roleOrder (tableOf s) (rowAt (tableOf s .rows) k .role) (rowAt (tableOf s .rows) j .role)
+unfolding Over
+over-at s j n m f k q = f k ∙ ap (λ b. b && roleOrder (tableOf s) (rowAt (tableOf s .rows) k .role) (rowAt (tableOf s .rows) j .role)) (lt-ltb k n q)
+
+pub rows-start : (s : List ℕ) → RowsTo s 0 (replicate 24 0) (replicate 24 0)
+rows-start s =
+    record {
+      over-many = length-replicate {A = ℕ} 24 0;
+      inner-many = length-replicate {A = ℕ} 24 0;
+      over-each = λ j h. absurd (let z : ⊥ = omega arith in z);
+      inner-each = λ k h. absurd (let z : ⊥ = omega arith in z);
+    }
+
+pub rows-step : (s over inner : List ℕ) (n m b e : ℕ) → n < 24 → e ≡ headerOf s .e → RowsTo s n over inner → Over s n e m → IsRowFiller s n b → RowsTo s (n + 1) (set over n m) (set inner n b)
+rows-step s over inner n m b e few same r o f =
+    record {
+      over-many = length-set over n m ∙ r .over-many;
+      inner-many = length-set inner n b ∙ r .inner-many;
+      over-each = λ j h. over-here j h (ℕ-discrete j n);
+      inner-each = λ k h. inner-at k h (ℕ-discrete k n);
+    }
+  where
+    over-here : (j : ℕ) → j < n + 1 → Dec (j ≡ n) → Over s j (headerOf s .e) (getD (set over n m) j 0)
+    over-here j h (yes z) =
+        let many : length over ≡ 24 = r .over-many in
+        subst (λ (i : ℕ). Over s i (headerOf s .e) (getD (set over n m) i 0)) (sym z)
+        (subst (Over s n (headerOf s .e)) (sym (getD-set-same over n m 0 (omega arith))) (subst (λ (i : ℕ). Over s n i m) same o))
+    over-here j h (no z) = subst (Over s j (headerOf s .e)) (sym (getD-set-other over n j m 0 z)) (r .over-each j (omega arith))
+
+    inner-at : (k : ℕ) → k < n + 1 → Dec (k ≡ n) → IsRowFiller s k (getD (set inner n b) k 0)
+    inner-at k h (yes z) =
+        let many : length inner ≡ 24 = r .inner-many in
+        subst (λ (i : ℕ). IsRowFiller s i (getD (set inner n b) i 0)) (sym z)
+        (subst (IsRowFiller s n) (sym (getD-set-same inner n b 0 (omega arith))) f)
+    inner-at k h (no z) = subst (IsRowFiller s k) (sym (getD-set-other inner n k b 0 z)) (r .inner-each k (omega arith))
+
+pub rows-whole : (s over inner : List ℕ) (n e : ℕ) → e ≤ n → n ≤ e → e ≡ headerOf s .e → RowsTo s n over inner → RowsGiven s over inner
+rows-whole s over inner n e h l same r =
+    record {
+      over-many = r .over-many;
+      inner-many = r .inner-many;
+      over-is = λ j k p q. over-at s j (headerOf s .e) (getD over j 0) (r .over-each j (omega arith)) k q;
+      inner-is = λ k p. r .inner-each k (omega arith);
+    }
+
+----------------------------------------------------------------------------------------------------
+-- What the rows say
 
 module _ (s : List ℕ) (a : Assignment) (c e : ℕ) (g : Given s a c e) where
   pub atom-count : atoms (tableOf s) ≡ c + e
@@ -187,10 +285,10 @@ module _ (s : List ℕ) (a : Assignment) (c e : ℕ) (g : Given s a c e) where
 
   module _ (over inner : List ℕ) (r : RowsGiven s over inner) where
     row-code : (k : ℕ) → k < e → fillerFrom (getD inner k 0) ≡ rowAt (tableOf s .rows) k .filler
-    row-code k h = filler-read s (getD inner k 0) (rowAt (tableOf s .rows) k .filler) (r .inner-is k (row-in k h))
+    row-code k h = filler-read s (getD inner k 0) (rowAt (tableOf s .rows) k .filler) (unfold IsRowFiller in r .inner-is k (row-in k h))
 
     pub row-filler : (k : ℕ) → k < e → IsFiller s (getD inner k 0)
-    unfolding IsFiller
+    unfolding IsFiller IsRowFiller
     row-filler k h = r .inner-is k (row-in k h) ∙ ap some (sym (row-code k h))
 
     -- the row of atom i, which is restriction i - c

@@ -3,16 +3,18 @@
 --   fillerFrom b, entryFrom b  == the filler, the entry that the code b writes, declared or not
 --   IsFiller s b, IsEntry s b  == the code b writes a filler, an entry that the table s declares
 --   RowsGiven s over inner     == bit k of `over j` says that row k's role lies under row j's, and `inner k` is the code of row k's filler
+--   Over s j n m               == the bits of m are those rows among the first n whose roles lie under row j's
+--   RowsTo s n over inner      == the same as RowsGiven, of the first n rows
 --   Given s a c e              == s is a readable table with c constants and e restrictions, a has a set for each variable
 --   LineGiven s over inner a c e v n at == s is a readable table with the counts c, e and v, a is acyclic, line n begins at the byte `at`
 --   setBelow s a k S j         == the conjunction of the set S lies below atom j, where k dependences are left
 --   fillerBelow s a k f g      == the filler of the code f lies below the filler of the code g, where k dependences are left
 use mathlib.Core.Path.{_≡_}
-use mathlib.Core.Bool.{Bool}
+use mathlib.Core.Bool.{Bool, _&&_}
 use mathlib.Core.List.{List}
 use mathlib.Core.Option.{some}
 use Prim.Native.Nat.{ℕ, _+_, _≤_, _<_}
-use lib.Dec.{T}
+use lib.Dec.{T, ltb}
 use lib.ListN.{length, getD}
 use Rattle.el.specs.Test.{bit}
 use Rattle.el.specs.Table.{Filler, topF, constantF, variableF, Entry, constant, restriction, variable, roleOrder, rowAt}
@@ -21,7 +23,7 @@ use Rattle.table.specs.declared.Kind.{Kind}
 use Rattle.table.specs.declared.Kind.the-variants.{Top, Constant, Restriction, Variable, Other}
 use Rattle.table.specs.Code.{kindOf, fillerOf, entryOf}
 use Rattle.table.specs.Reading.{maxAtoms, maxVariables, reading, isReadable, tableOf, headerOf}
-use Rattle.table.specs.Layout.{lineStart}
+use Rattle.table.specs.Layout.{lineStart, IsRowFiller}
 use Rattle.order.specs.Rule.{setTest, fillerTest}
 
 abbrev pub fillerFromKind : Kind → Filler
@@ -55,7 +57,16 @@ pub record RowsGiven (s over inner : List ℕ) : Type 0 where
   pub inner-many : length inner ≡ maxAtoms
   pub over-is : (j k : ℕ) → j < headerOf s .e → k < headerOf s .e
       → bit k (getD over j 0) ≡ roleOrder (tableOf s) (rowAt (tableOf s .rows) k .role) (rowAt (tableOf s .rows) j .role)
-  pub inner-is : (k : ℕ) → k < headerOf s .e → fillerOf (headerOf s .c) (headerOf s .v) (getD inner k 0) ≡ some (rowAt (tableOf s .rows) k .filler)
+  pub inner-is : (k : ℕ) → k < headerOf s .e → IsRowFiller s k (getD inner k 0)
+
+unfoldable pub Over : List ℕ → ℕ → ℕ → ℕ → Type 0
+Over s j n m = (k : ℕ) → bit k m ≡ ltb k n && roleOrder (tableOf s) (rowAt (tableOf s .rows) k .role) (rowAt (tableOf s .rows) j .role)
+
+pub record RowsTo (s : List ℕ) (n : ℕ) (over inner : List ℕ) : Type 0 where
+  pub over-many : length over ≡ maxAtoms
+  pub inner-many : length inner ≡ maxAtoms
+  pub over-each : (j : ℕ) → j < n → Over s j (headerOf s .e) (getD over j 0)
+  pub inner-each : (k : ℕ) → k < n → IsRowFiller s k (getD inner k 0)
 
 pub record Given (s : List ℕ) (a : Assignment) (c e : ℕ) : Type 0 where
   pub readable : T (isReadable (reading s))

@@ -8,13 +8,53 @@ use table::Kind;
 ghost use mathlib.Core.Path.{_≡_};
 ghost use Prim.Native.Nat.{_+_, _<_};
 ghost use Rattle.el.specs.Table.{roleOrder};
+ghost use lib.Dec.{T};
 ghost use Rattle.el.specs.Test.{anyBelow, bit};
 ghost use Rattle.el.specs.Assignment.{induced};
 ghost use Rattle.el.specs.Meaning.{holds};
-ghost use Rattle.table.specs.Reading.{tableOf, headerOf};
+ghost use Rattle.table.specs.Reading.{headerOf, isReadable, reading, tableOf};
 ghost use Rattle.table.specs.Layout.{lineAt, lineStart};
 ghost use Rattle.order.specs.Rule.{isConstant, flatTest, fillerSet, entrySet, leftSet};
-ghost use Rattle.order.specs.Given.{fillerFrom, entryFrom, IsFiller, IsEntry, RowsGiven, Given, LineGiven, setBelow, fillerBelow};
+ghost use Rattle.order.specs.Given.{fillerFrom, entryFrom, IsFiller, IsEntry, Over, RowsGiven, Given, LineGiven, setBelow, fillerBelow};
+
+// The rows of a table for the line test: bit k of `over[j]` says that row k's role lies under row j's, and `inner[k]` is the code of row k's
+// filler.
+pub struct Rows {
+    pub over: [u32; 24],
+    pub inner: [u8; 24],
+}
+
+// The rows whose roles lie under row j's.
+fn row_over(table: &[u8], e: usize, j: usize) -> u32
+    requires { ⌜ T (isReadable (reading (now table))) × (e ≡ headerOf (now table) .e) × (j < e) ⌝ }
+    ensures { λ r. ⌜ Over (now (table .entry)) j e r ⌝ }
+{
+    let role = table::role_of(table, j);
+    let mut mask = 0u32;
+    let mut k = 0;
+    while k < e {
+        if table::role_of(table, k) == role {
+            mask = mask | (1u32 << k);
+        }
+        k += 1;
+    }
+    mask
+}
+
+pub fn rows_of(table: &[u8], e: usize) -> Rows
+    requires { ⌜ T (isReadable (reading (now table))) × (e ≡ headerOf (now table) .e) ⌝ }
+    ensures { λ r. ⌜ RowsGiven (now (table .entry)) (r .over) (r .inner) ⌝ }
+{
+    let mut over = [0u32; 24];
+    let mut inner = [0u8; 24];
+    let mut j = 0;
+    while j < e {
+        over[j] = row_over(table, e, j);
+        inner[j] = table::filler_of(table, j);
+        j += 1;
+    }
+    Rows { over, inner }
+}
 
 // Bit i of the set number s.
 fn bit_of(s: u32, i: usize) -> bool

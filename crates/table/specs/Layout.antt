@@ -2,6 +2,7 @@
 --
 --   lineAt lines n == line n
 --   lineStart s n  == the byte where line n begins
+--   IsRowFiller s k b == the code b writes the filler of row k
 --   Layout s t     == the bytes s lie as the table t says
 use mathlib.Core.Path.{_≡_}
 use mathlib.Core.List.{List, []}
@@ -11,7 +12,7 @@ use lib.Dec.{T}
 use lib.ListN.{length, getD}
 use Rattle.el.specs.Table.{constant, Line, Table, rowAt, declared}
 use Rattle.table.specs.Code.{fillerOf, entryOf}
-use Rattle.table.specs.Reading.{byteAt, maxAtoms, maxRoles, maxVariables, maxLines, maxLeft, headerOf}
+use Rattle.table.specs.Reading.{byteAt, maxAtoms, maxRoles, maxVariables, maxLines, maxLeft, headerOf, tableOf}
 
 unfoldable pub lineAt : List Line → ℕ → Line
 lineAt lines n = getD lines n (record { left = []; right = constant 0 })
@@ -19,6 +20,9 @@ lineAt lines n = getD lines n (record { left = []; right = constant 0 })
 unfoldable pub lineStart : List ℕ → ℕ → ℕ
 lineStart s zero = 10 + 2 * headerOf s .e
 lineStart s (suc n) = lineStart s n + byteAt s (lineStart s n) + 2
+
+unfoldable pub IsRowFiller : List ℕ → ℕ → ℕ → Type 0
+IsRowFiller s k b = fillerOf (headerOf s .c) (headerOf s .v) b ≡ some (rowAt (tableOf s .rows) k .filler)
 
 pub record Layout (s : List ℕ) (t : Table) : Type 0 where
   pub constants : t .constants ≡ headerOf s .c

@@ -1,12 +1,13 @@
 // What the bytes say: the codes and the reader.
 ghost use mathlib.Core.Path.{_≡_};
-ghost use Prim.Native.Nat.{_≤_};
+ghost use Prim.Native.Nat.{_≤_, _<_};
 ghost use lib.Dec.{T};
 ghost use lib.ListN.{length};
 ghost use Rattle.table.specs.Code.{kindOf, fillerOf, entryOf};
-ghost use Rattle.table.specs.Reading.{marked, versionOne, headerOf, readHeader, readRow, readRows, readEntry, readEntries, readLine, readLines, readBody, reading, isReadable};
+ghost use Rattle.table.specs.Reading.{marked, versionOne, headerOf, readHeader, readRow, readRows, readEntry, readEntries, readLine, readLines, readBody, reading, tableOf, isReadable};
 ghost use Rattle.table.specs.Step.{isSome, stepOf, verdictOf};
-ghost use Rattle.table.specs.Layout.{lineStart};
+ghost use Rattle.el.specs.Table.{rowAt};
+ghost use Rattle.table.specs.Layout.{lineStart, IsRowFiller};
 
 // The bytes that hold the five counts, and the length of the header.
 pub const CONSTANTS: usize = 5;
@@ -20,6 +21,9 @@ pub const RESTRICTIONS: usize = 8;
 pub const LINES: usize = 9;
 
 pub const HEADER: usize = 10;
+
+// Where the filler of row 0 stands.
+const FILLER: usize = 11;
 
 // The bounds.
 pub const MAX_ATOMS: usize = 24;
@@ -319,4 +323,20 @@ pub fn line_start(table: &[u8], n: usize) -> usize
         i += 1;
     }
     at
+}
+
+// The role of restriction row k of a readable table.
+pub fn role_of(table: &[u8], k: usize) -> u8
+    requires { ⌜ T (isReadable (reading (now table))) × (k < headerOf (now table) .e) ⌝ }
+    ensures { λ r. ⌜ r ≡ rowAt (tableOf (now (table .entry)) .rows) k .role ⌝ }
+{
+    table[HEADER + 2 * k]
+}
+
+// The code of its filler.
+pub fn filler_of(table: &[u8], k: usize) -> u8
+    requires { ⌜ T (isReadable (reading (now table))) × (k < headerOf (now table) .e) ⌝ }
+    ensures { λ r. ⌜ IsRowFiller (now (table .entry)) k r ⌝ }
+{
+    table[FILLER + 2 * k]
 }

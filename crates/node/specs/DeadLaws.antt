@@ -29,7 +29,7 @@ use Rattle.el.specs.Walk.{Node, lineVariables, settled, ready, fails, dead}
 use Rattle.el.specs.NodeLaws.{line-same, dead-lines}
 use Rattle.table.specs.Layout.{lineAt}
 use Rattle.table.specs.Reading.{tableOf}
-use Rattle.order.specs.Given.{LineGiven}
+use Rattle.order.specs.Given.{RowsGiven, LineGiven}
 use Rattle.node.specs.declared.Sets.{Sets}
 use Rattle.node.specs.Node.{nodeOf, Masks, isAmong, LineMasks, LineStarts, failsTo, LineTest, LinesGiven}
 use Rattle.node.specs.SquareLaws.{same-sets}
@@ -91,14 +91,15 @@ module _ (t : Table) (s : Node) (l : Line) (own k : ℕ) (is : Masks (isAmong (l
 -- The test of a line
 
 module _ (s : List ℕ) (c e v n at : ℕ) (sets : Sets) (own k : ℕ) (test : LineTest s c e v n at sets own k) where
-  pub test-given : length (sets .set) ≡ 12 → LineGiven s (sets .set) c e v n at
-  test-given room = record {
+  pub test-given : (over inner : List ℕ) → RowsGiven s over inner → length (sets .set) ≡ 12 → LineGiven s over inner (sets .set) c e v n at
+  test-given over inner rows room = record {
     readable = test .readable;
     constants = test .constants;
     restrictions = test .restrictions;
     variables = test .variables;
     sets = room;
     acyclic = subst T (acyclic-same (tableOf s) (nodeOf sets) (sets .set) (same-sets sets (test .clean))) (test .straight);
+    rows = rows;
     line = test .line;
     begins = test .begins;
   }

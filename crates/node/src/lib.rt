@@ -15,6 +15,7 @@ ghost use Rattle.el.specs.Assignment.{isVariable};
 ghost use Rattle.el.specs.Walk.{entryVariables, lineVariables, fails, dead};
 ghost use Rattle.table.specs.Reading.{reading, isReadable, tableOf, headerOf};
 ghost use Rattle.table.specs.Layout.{Layout, lineAt, lineStart};
+ghost use Rattle.order.specs.Given.{RowsGiven};
 ghost use Rattle.node.specs.Node.{Clean, Masks, isAmong, dependsBy, dependsFrom, FillMasks, LineMasks, LineStarts, Prepares, entryAs, IsEntry, Direct, Closes, Squares, noCycle, settledBy, leadsBy, nodeOf, failsTo, NodeGiven, LineTest, LinesGiven};
 
 // One set number for each variable, and how many variables are chosen.
@@ -34,9 +35,11 @@ struct Lines {
     start: [usize; 64],
 }
 
-// What is the same at every node: the mask of the variable inside each restriction, the mask of the variables of each
-// line, and the byte where each line begins.
+// What is the same at every node: the rows for the line test, the mask of the variable inside each restriction, the mask of the
+// variables of each line, and the byte where each line begins.
 pub struct Prepared {
+    pub over: [u32; 24],
+    pub inner: [u8; 24],
     pub fill: [u32; 24],
     pub mask: [u32; 64],
     pub start: [usize; 64],
@@ -213,13 +216,22 @@ fn lines_of(table: &[u8], e: usize, m: usize) -> Lines
 // What is prepared once for every node of a table.
 pub fn prepare(table: &[u8], e: usize, m: usize) -> Prepared
     requires { ⌜ T (isReadable (reading (now table))) × (e ≡ headerOf (now table) .e) × (m ≡ headerOf (now table) .m) ⌝ }
-    ensures { λ r. ⌜ Prepares (now (table .entry)) (r .fill) (r .mask) (r .start) ⌝ }
+    ensures { λ r. ⌜ Prepares (now (table .entry)) (r .fill) (r .mask) (r .start) × RowsGiven (now (table .entry)) (r .over) (r .inner) ⌝ }
 {
+    let rows = order::rows_of(table, e);
+    let over = rows.over;
+    let inner = rows.inner;
     let fill = fill_masks(table, e);
     let lines = lines_of(table, e, m);
     let mask = lines.mask;
     let start = lines.start;
-    Prepared { fill, mask, start }
+    Prepared {
+        over,
+        inner,
+        fill,
+        mask,
+        start,
+    }
 }
 
 // The mask of the settled variables: the chosen ones, n in number, that lead to none that is not chosen.
@@ -259,6 +271,8 @@ pub fn leads_mask(square: Square, n: usize, z: usize) -> u32
 // Whether line n, whose variables are `own`, is ready and fails.
 fn line_fails(
     table: &[u8],
+    over: &[u32],
+    inner: &[u8],
     c: usize,
     e: usize,
     v: usize,
@@ -268,19 +282,21 @@ fn line_fails(
     own: u32,
     settled: u32,
 ) -> bool
-    requires { ⌜ LineTest (now table) c e v n at sets own settled ⌝ }
+    requires { ⌜ LineTest (now table) c e v n at sets own settled × RowsGiven (now table) (now over) (now inner) ⌝ }
     ensures { λ r. ⌜ r ≡ fails (roleOrder (tableOf (now (table .entry)))) (tableOf (now (table .entry))) (nodeOf sets) (lineAt (tableOf (now (table .entry)) .lines) n) ⌝ }
 {
     if (own & settled) != own {
         return false;
     }
     let set = sets.set;
-    !order::line_holds(table, &set, c, e, v, n, at)
+    !order::line_holds(table, over, inner, &set, c, e, v, n, at)
 }
 
 // Whether one of the lines is ready and fails.
 fn some_fails(
     table: &[u8],
+    over: &[u32],
+    inner: &[u8],
     mask: &[u32],
     start: &[usize],
     c: usize,
@@ -290,12 +306,24 @@ fn some_fails(
     sets: Sets,
     settled: u32,
 ) -> bool
-    requires { ⌜ LinesGiven (now table) c e v m sets (now mask) (now start) settled ⌝ }
+    requires { ⌜ LinesGiven (now table) c e v m sets (now mask) (now start) settled × RowsGiven (now table) (now over) (now inner) ⌝ }
     ensures { λ r. ⌜ r ≡ failsTo (tableOf (now (table .entry))) (nodeOf sets) m ⌝ }
 {
     let mut n: usize = 0;
     while n < m {
-        if line_fails(table, c, e, v, n, start[n], sets, mask[n], settled) {
+        if line_fails(
+            table,
+            over,
+            inner,
+            c,
+            e,
+            v,
+            n,
+            start[n],
+            sets,
+            mask[n],
+            settled,
+        ) {
             return true;
         }
         n += 1;
@@ -318,5 +346,19 @@ pub fn is_dead(table: &[u8], c: usize, e: usize, v: usize, m: usize, sets: Sets)
     let settled = settled_mask(square, k);
     let mask = prepared.mask;
     let start = prepared.start;
-    some_fails(table, &mask, &start, c, e, v, m, sets, settled)
+    let over = prepared.over;
+    let inner = prepared.inner;
+    some_fails(
+        table,
+        &over,
+        &inner,
+        &mask,
+        &start,
+        c,
+        e,
+        v,
+        m,
+        sets,
+        settled,
+    )
 }

@@ -11,16 +11,16 @@ use Rattle.node.proofs.some_fails.Statement.{statement}
 use Rattle.node.proofs.some_fails.Tie as tie
 
 abbrev Inv-loop : tie.InvT-loop
-Inv-loop table mask start c e v m sets settled n₀ n = (n ≤ m) × (failsTo (tableOf table) (nodeOf sets) n ≡ false)
+Inv-loop table over inner mask start c e v m sets settled n₀ n = (n ≤ m) × (failsTo (tableOf table) (nodeOf sets) n ≡ false)
 
 abbrev μ-loop : tie.MeasureT-loop
-μ-loop table mask start c e v m sets settled n₀ n = m - n
+μ-loop table over inner mask start c e v m sets settled n₀ n = m - n
 
 loop-holds : tie.Need-loop-holds Inv-loop μ-loop
 loop-holds c = (omega arith, fails-none _ _)
 
 line-fails-requires : tie.Need-line-fails-requires Inv-loop μ-loop
-line-fails-requires c κs = line-test _ _ _ _ _ (c .before .before .before .before .before .before .before .args .sets) _ _ _ _ (c .before .before .before .before .before .before .before .pre) (c .before .before .loop-test .taken)
+line-fails-requires c κs = (line-test _ _ _ _ _ (c .before .before .before .before .before .before .before .before .before .args .sets) _ _ _ _ (c .before .before .before .before .before .before .before .before .before .pre .0) (c .before .before .loop-test .taken), c .before .before .before .before .before .before .before .before .before .pre .1)
 
 returns : tie.Need-returns Inv-loop μ-loop
 returns c = sym (fails-found _ _ _ _ (c .before .before .before .before .loop-test .taken) (sym (c .before .line-fails .ensures) ∙ c .if1 .taken))

@@ -45,7 +45,7 @@ use Rattle.el.specs.ChildLaws.{newly, freshly, child-acyclic, child-open, child
 use Rattle.table.specs.Reading.{tableOf, headerOf}
 use Rattle.table.specs.Layout.{lineAt}
 use Rattle.table.specs.LayoutLaws.{layout}
-use Rattle.order.specs.Given.{LineGiven}
+use Rattle.order.specs.Given.{RowsGiven, LineGiven}
 use Rattle.node.specs.declared.Sets.{Sets}
 use Rattle.node.specs.Node.{nodeOf, Clean, Masks, isAmong, dependsBy, LineMasks, LineStarts, Prepares, rowOf, Shows, Squares, settledBy, leadsBy, NodeGiven}
 use Rattle.order.specs.BitLaws.{bit-more, high-none, bit-or, bit-and}
@@ -403,8 +403,8 @@ module _ (s start : List ℕ) (c e v : ℕ) (fresh : List ℕ) (few : ℕ) (sets
       let k : getD fresh i 0 < headerOf s .m = given .in-table i h in let f : headerOf s .m ≤ 64 = layout s (given .readable) .few-lines in
       let r : length start ≡ 64 = given .room in omega arith
 
-  pub fresh-line : (i n : ℕ) → i < few → n ≡ getD fresh i 0 → LineGiven s sets c e v n (getD start n 0)
-  fresh-line i n h q =
+  pub fresh-line : (over inner : List ℕ) → RowsGiven s over inner → (i n : ℕ) → i < few → n ≡ getD fresh i 0 → LineGiven s over inner sets c e v n (getD start n 0)
+  fresh-line over inner rows i n h q =
       let k : n < headerOf s .m = (let z : getD fresh i 0 < headerOf s .m = given .in-table i h in omega arith) in
       record {
         readable = given .readable;
@@ -413,6 +413,7 @@ module _ (s start : List ℕ) (c e v : ℕ) (fresh : List ℕ) (few : ℕ) (sets
         variables = given .variables;
         sets = given .sets;
         acyclic = given .straight;
+        rows = rows;
         line = k;
         begins = (unfold LineStarts in given .starts n k);
       }

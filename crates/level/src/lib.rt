@@ -9,6 +9,7 @@ ghost use Rattle.el.specs.Table.{roleOrder};
 ghost use Rattle.el.specs.Walk.{dead};
 ghost use Rattle.table.specs.Reading.{tableOf};
 ghost use Rattle.node.specs.Node.{Masks, NodeGiven, Prepares};
+ghost use Rattle.order.specs.Given.{RowsGiven};
 ghost use Rattle.level.specs.Level.{newBy, Back, Out, WaysTo, freshMask, isFresh, Listed, Levels, FreshGiven, freshFails, ChildGiven, SweepGiven, Sweeps};
 use node::Sets;
 use node::Square;
@@ -139,6 +140,8 @@ pub fn level_of(
 // One of the level's lines fails at the node.
 fn fresh_fails(
     table: &[u8],
+    over: &[u32],
+    inner: &[u8],
     start: &[usize],
     fresh: &[u8],
     few: usize,
@@ -147,13 +150,13 @@ fn fresh_fails(
     v: usize,
     set: &[u32],
 ) -> bool
-    requires { ⌜ FreshGiven (now table) (now start) c e v (now fresh) few (now set) ⌝ }
+    requires { ⌜ FreshGiven (now table) (now start) c e v (now fresh) few (now set) × RowsGiven (now table) (now over) (now inner) ⌝ }
     ensures { λ r. ⌜ r ≡ freshFails (now (table .entry)) (now (set .entry)) (now (fresh .entry)) few ⌝ }
 {
     let mut i: usize = 0;
     while i < few {
         let n = table::wide(fresh[i]);
-        if !order::line_holds(table, set, c, e, v, n, start[n]) {
+        if !order::line_holds(table, over, inner, set, c, e, v, n, start[n]) {
             return true;
         }
         i += 1;
@@ -165,6 +168,8 @@ fn fresh_fails(
 // lines fails; but where the newest variable leads to one that is not chosen, no line is ready that was not ready before.
 fn is_dead(
     table: &[u8],
+    over: &[u32],
+    inner: &[u8],
     start: &[usize],
     turning: u32,
     leaving: u32,
@@ -177,7 +182,7 @@ fn is_dead(
     k: usize,
     set: &[u32],
 ) -> bool
-    requires { ⌜ ChildGiven (now table) (now start) turning leaving (now fresh) few c e v m k (now set) ⌝ }
+    requires { ⌜ ChildGiven (now table) (now start) turning leaving (now fresh) few c e v m k (now set) × RowsGiven (now table) (now over) (now inner) ⌝ }
     ensures { λ r. ⌜ r ≡ dead (roleOrder (tableOf (now (table .entry)))) (tableOf (now (table .entry))) (take k (now (set .entry))) ⌝ }
 {
     let x = set[k - 1];
@@ -187,7 +192,7 @@ fn is_dead(
     if (x & leaving) != 0 {
         return false;
     }
-    fresh_fails(table, start, fresh, few, c, e, v, set)
+    fresh_fails(table, over, inner, start, fresh, few, c, e, v, set)
 }
 
 // How a sweep over siblings ended: at a live one, after the last one, or with as many examined as were allowed.
@@ -207,6 +212,8 @@ pub struct Swept {
 // Examines the node and its siblings after it, at most `most` of them, up to the first that is live.
 pub fn sweep(
     table: &[u8],
+    over: &[u32],
+    inner: &[u8],
     start: &[usize],
     level: Level,
     c: usize,
@@ -217,7 +224,7 @@ pub fn sweep(
     last: u32,
     most: u32,
 ) -> Swept
-    requires { ⌜ SweepGiven (now table) (now start) level c e v m sets last ⌝ }
+    requires { ⌜ SweepGiven (now table) (now start) level c e v m sets last × RowsGiven (now table) (now over) (now inner) ⌝ }
     ensures { λ r. ⌜ Sweeps (tableOf (now (table .entry))) sets last most r ⌝ }
 {
     let k = sets.chosen;
@@ -233,6 +240,8 @@ pub fn sweep(
         passed += 1;
         if !is_dead(
             table,
+            over,
+            inner,
             start,
             turning,
             leaving,

@@ -10,25 +10,25 @@ use Rattle.level.proofs.fresh_fails.Statement.{statement}
 use Rattle.level.proofs.fresh_fails.Tie as tie
 
 abbrev Inv-loop : tie.InvT-loop
-Inv-loop table start fresh few c e v set i₀ i = (i ≤ few) × (freshFails table set fresh i ≡ false)
+Inv-loop table over inner start fresh few c e v set i₀ i = (i ≤ few) × (freshFails table set fresh i ≡ false)
 
 abbrev μ-loop : tie.MeasureT-loop
-μ-loop table start fresh few c e v set i₀ i = few - i
+μ-loop table over inner start fresh few c e v set i₀ i = few - i
 
 loop-holds : tie.Need-loop-holds Inv-loop μ-loop
 loop-holds c = (omega arith, lines-start _ _ _)
 
 shared-slice-read-wide : tie.Need-shared-slice-read-wide Inv-loop μ-loop
-shared-slice-read-wide c = (let f = c .before .before .before .before .before .before .before .pre .few-fit in let k = c .before .loop-test .taken in omega arith)
+shared-slice-read-wide c = (let f = c .before .before .before .before .before .before .before .before .before .pre .0 .few-fit in let k = c .before .loop-test .taken in omega arith)
 
 mul-line-holds : tie.Need-mul-line-holds Inv-loop μ-loop
-mul-line-holds c = (let h = fresh-in _ _ _ _ _ _ _ _ (c .before .before .before .before .before .before .before .before .pre) _ _ (c .before .before .loop-test .taken) (c .wide .ensures) in search needs)
+mul-line-holds c = (let h = fresh-in _ _ _ _ _ _ _ _ (c .before .before .before .before .before .before .before .before .before .before .pre .0) _ _ (c .before .before .loop-test .taken) (c .wide .ensures) in search needs)
 
 shared-slice-read-line-holds : tie.Need-shared-slice-read-line-holds Inv-loop μ-loop
-shared-slice-read-line-holds c = fresh-in _ _ _ _ _ _ _ _ (c .before .before .before .before .before .before .before .before .before .pre) _ _ (c .before .before .before .loop-test .taken) (c .before .wide .ensures)
+shared-slice-read-line-holds c = fresh-in _ _ _ _ _ _ _ _ (c .before .before .before .before .before .before .before .before .before .before .before .pre .0) _ _ (c .before .before .before .loop-test .taken) (c .before .wide .ensures)
 
 line-holds-requires : tie.Need-line-holds-requires Inv-loop μ-loop
-line-holds-requires c κs = fresh-line _ _ _ _ _ _ _ _ (c .before .before .before .before .before .before .before .before .before .pre) _ _ (c .before .before .before .loop-test .taken) (c .before .wide .ensures)
+line-holds-requires c κs = fresh-line _ _ _ _ _ _ _ _ (c .before .before .before .before .before .before .before .before .before .before .before .pre .0) _ _ (c .before .before .before .before .before .before .before .before .before .before .before .pre .1) _ _ (c .before .before .before .loop-test .taken) (c .before .wide .ensures)
 
 returns : tie.Need-returns Inv-loop μ-loop
 returns c = lines-fail _ _ _ _ _ (c .before .before .before .wide .ensures) _ (c .before .line-holds .ensures) _ (c .before .before .before .before .before .loop-test .taken) (c .if1 .taken)

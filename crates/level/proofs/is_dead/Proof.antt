@@ -12,22 +12,22 @@ use Rattle.level.proofs.is_dead.Lts as lts
 use Rattle.level.proofs.fresh_fails.Reads as fresh-fails-reads
 
 mul-x : tie.Need-mul-x
-mul-x c = (let h = child-place (c .before .before .before .before .pre) in search needs)
+mul-x c = (let h = child-place (c .before .before .before .before .before .before .pre .0) in search needs)
 
 shared-slice-read-x : tie.Need-shared-slice-read-x
-shared-slice-read-x c = (let h = child-place (c .before .before .before .before .before .pre) in let r = c .before .before .before .before .before .pre .room in omega arith)
+shared-slice-read-x c = (let h = child-place (c .before .before .before .before .before .before .before .pre .0) in let r = c .before .before .before .before .before .before .before .pre .0 .room in omega arith)
 
 returns : tie.Need-returns
-returns c = child-turns (c .before .before .before .before .before .before .pre) (c .if1 .taken)
+returns c = child-turns (c .before .before .before .before .before .before .before .before .pre .0) (c .if1 .taken)
 
 returns-2 : tie.Need-returns-2
-returns-2 c = child-leaves (c .before .before .before .before .before .before .before .pre) (c .before .if1 .left) (c .if2 .taken)
+returns-2 c = child-leaves (c .before .before .before .before .before .before .before .before .before .pre .0) (c .before .if1 .left) (c .if2 .taken)
 
 fresh-fails-requires : tie.Need-fresh-fails-requires
-fresh-fails-requires c κs = child-lines (c .before .before .before .before .before .before .before .pre) (c .before .if1 .left) (c .if2 .left)
+fresh-fails-requires c κs = (child-lines (c .before .before .before .before .before .before .before .before .before .pre .0) (c .before .if1 .left) (c .if2 .left), c .before .before .before .before .before .before .before .before .before .pre .1)
 
 returns-3 : tie.Need-returns-3
-returns-3 c = c .fresh-fails .ensures ∙ child-fails (c .before .before .before .before .before .before .before .before .pre) (c .before .before .if1 .left) (c .before .if2 .left)
+returns-3 c = c .fresh-fails .ensures ∙ child-fails (c .before .before .before .before .before .before .before .before .before .before .pre .0) (c .before .before .if1 .left) (c .before .if2 .left)
 
 pub is-dead-spec : {M : Type 1} → statement M
 is-dead-spec =

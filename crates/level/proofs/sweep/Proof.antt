@@ -16,17 +16,17 @@ use Rattle.level.proofs.sweep.Lts as lts
 use Rattle.level.proofs.is_dead.Reads as is-dead-reads
 
 abbrev Inv-loop : tie.InvT-loop
-Inv-loop table start c e v m last most k y turning leaving fresh few set₀ passed₀ set passed =
+Inv-loop table over inner start c e v m last most k y turning leaving fresh few set₀ passed₀ set passed =
     (passed ≤ most) × (length set ≡ 12) × At (tableOf table) set₀ k last passed set × ChildGiven table start turning leaving fresh few c e v m k set₀
 
 abbrev μ-loop : tie.MeasureT-loop
-μ-loop table start c e v m last most k y turning leaving fresh few set₀ passed₀ set passed = most - passed
+μ-loop table over inner start c e v m last most k y turning leaving fresh few set₀ passed₀ set passed = most - passed
 
 sub-y : tie.Need-sub-y Inv-loop μ-loop
-sub-y c = (let h = child-place (c .before .before .pre .child (search needs)) in search needs)
+sub-y c = (let h = child-place (c .before .before .before .before .pre .0 .child (search needs)) in search needs)
 
 loop-holds : tie.Need-loop-holds Inv-loop μ-loop
-loop-holds c = (let g = c .before .before .before .before .pre .child (search needs) in (omega arith, g .room, at-start (c .before .before .before .before .pre .first), g))
+loop-holds c = (let g = c .before .before .before .before .before .before .pre .0 .child (search needs) in (omega arith, g .room, at-start (c .before .before .before .before .before .before .pre .0 .first), g))
 
 mul-x : tie.Need-mul-x Inv-loop μ-loop
 mul-x c = (let h = child-place (c .before .loop .inv .3) in search needs)
@@ -35,7 +35,7 @@ array-read-x : tie.Need-array-read-x Inv-loop μ-loop
 array-read-x c = (let h = child-place (c .before .loop .inv .3) in search needs)
 
 is-dead-requires : tie.Need-is-dead-requires Inv-loop μ-loop
-is-dead-requires c κs = at-child (c .before .before .before .loop .inv .3) (c .before .before .before .loop .inv .2)
+is-dead-requires c κs = (at-child (c .before .before .before .loop .inv .3) (c .before .before .before .loop .inv .2), c .before .before .before .before .before .before .before .before .before .before .pre .1)
 
 returns : tie.Need-returns Inv-loop μ-loop
 returns c = swept-live (c .before .before .before .before .before .loop .inv .3) (c .before .before .before .before .before .loop .inv .2) refl (c .before .before .before .before .loop-test .taken) (c .before .is-dead .ensures) (not-true _ (c .if1 .taken))
@@ -44,7 +44,7 @@ returns-2 : tie.Need-returns-2 Inv-loop μ-loop
 returns-2 c = swept-over (c .before .before .before .before .before .before .loop .inv .3) (c .before .before .before .before .before .before .loop .inv .2) refl (c .before .before .before .before .before .loop-test .taken) (c .before .before .is-dead .ensures) (not-false _ (c .before .if1 .left)) (c .if2 .taken)
 
 add-set : tie.Need-add-set Inv-loop μ-loop
-add-set c = (let h = child-place (c .before .before .before .before .before .before .loop .inv .3) in let w = c .before .before .before .before .before .before .before .before .before .before .before .pre .narrow in search needs)
+add-set c = (let h = child-place (c .before .before .before .before .before .before .loop .inv .3) in let w = c .before .before .before .before .before .before .before .before .before .before .before .before .before .pre .0 .narrow in search needs)
 
 mul-set : tie.Need-mul-set Inv-loop μ-loop
 mul-set c = (let h = child-place (c .before .before .before .before .before .before .loop .inv .3) in search needs)

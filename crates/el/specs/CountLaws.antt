@@ -15,7 +15,7 @@ use native.Mathlib.Nat.{mul-suc, mul-zero, add-mul, pow-zero}
 use lib.Pow.{pow-add}
 use lib.ListN.{length, length-append}
 use Rattle.el.specs.Table.{Table, atoms}
-use Rattle.el.specs.Walk.{Node, dead, ends, inTurn, subtree, nodes, upToFirst, examined, count, sumTo, mostNodes}
+use Rattle.el.specs.Walk.{Node, dead, ends, inTurn, treeOf, subtree, nodes, upToFirst, examined, count, sumTo, mostNodes}
 
 upTo-length : (p : Node → Bool) (l : List Node) → length (upToFirst p l) ≤ length l
 unfolding upToFirst
@@ -59,7 +59,7 @@ module _ (under : ℕ → ℕ → Bool) (t : Table) where
   sums r = sumTo r (λ k. 2 ^ (atoms t * k))
 
   subtree-length : (r : ℕ) (s : Node) → length (subtree under t r s) ≤ sums r
-  unfolding subtree sumTo
+  unfolding treeOf sumTo
   subtree-length zero s = let a : 2 ^ (atoms t * 0) ≡ 1 = power-none (atoms t) in omega arith
   subtree-length (suc r) s = go (dead under t s) (λ (x : ℕ). subtree-length r (s ++ (x ∷ [])))
     where
@@ -82,8 +82,8 @@ module _ (under : ℕ → ℕ → Bool) (t : Table) where
       first l s = unfold upToFirst in omega arith
 
       go : (r : ℕ) → 0 < length (upToFirst (ends under t) (subtree under t r []))
-      go zero = unfold subtree in first [] []
-      go (suc r) = unfold subtree in first (elim (dead under t []) [ true ↦ [] | false ↦ inTurn (2 ^ atoms t) 0 (λ x. subtree under t r (x ∷ [])) ]) []
+      go zero = unfold treeOf in first [] []
+      go (suc r) = unfold treeOf in first (elim (dead under t []) [ true ↦ [] | false ↦ inTurn (2 ^ atoms t) 0 (λ x. subtree under t r (x ∷ [])) ]) []
 
   -- N IS AT MOST THE SUM OF ALL LEVELS
   pub count-most : count under t ≤ mostNodes t

@@ -6,7 +6,6 @@
 --   keep-append, keep-inTurn == of two lists, and of lists in turn
 --   orElse a b       == a, or b where a is none
 --   FirstSays r s o  == o is the least of the extensions that passes, or none where none does
---   treeOf r s       == the tree of nodes below s, where a dead node has no children
 --   first-same       == two lists that keep the same have the same first
 --   first-least      == the first of the extensions that passes a test is the least in counting order that does; where there is none, none does
 --   live-full        == where a dead node hides nothing, the live full nodes of a tree are the extensions that pass
@@ -20,7 +19,7 @@ use native.Mathlib.Omega.{arith}
 use native.Mathlib.Decide.{ℕ-discrete}
 use lib.ListN.{length, length-append}
 use Rattle.el.specs.Assignment.{Before}
-use Rattle.el.specs.Walk.{Node, inTurn, firstOf}
+use Rattle.el.specs.Walk.{Node, inTurn, treeOf, firstOf}
 
 unfoldable pub extensions : ℕ → ℕ → Node → List Node
 extensions w zero s = s ∷ []
@@ -189,12 +188,8 @@ module _ (p : Node → Bool) (w : ℕ) where
   first-least (suc r) s = all r s (firstOf p (inTurn w 0 (λ x. extensions w r (s ++ (x ∷ []))))) (from r s (λ x. extensions w r (s ++ (x ∷ []))) (λ x. first-least r (s ++ (x ∷ []))) w 0 (omega arith))
 
 -- ── trees ─────────────────────────────────────────────────────────────────
--- A tree over a test `gone` for dead nodes and a test `good` for full ones.
+-- A tree over a test `gone` for nodes without children and a test `good` for full ones.
 module _ (gone good : Node → Bool) (v w : ℕ) (hides : (s l : Node) → gone s ≡ true → good (s ++ l) ≡ false) where
-  unfoldable pub treeOf : ℕ → Node → List Node
-  treeOf zero s = s ∷ []
-  treeOf (suc r) s = s ∷ elim (gone s) [ true ↦ [] | false ↦ inTurn w 0 (λ x. treeOf r (s ++ (x ∷ []))) ]
-
   -- below a dead node nothing is good
   hidden : (r : ℕ) (s l : Node) → gone s ≡ true → keep good (extensions w r (s ++ l)) ≡ []
   unfolding extensions
@@ -208,7 +203,7 @@ module _ (gone good : Node → Bool) (v w : ℕ) (hides : (s l : Node) → gone 
     grown s r x h = rw length-append (omega arith)
 
     -- THE LIVE FULL NODES OF THE TREE ARE THE GOOD EXTENSIONS, IN COUNTING ORDER
-    pub live-full : (r : ℕ) (s : Node) → length s + r ≡ v → keep stop (treeOf r s) ≡ keep good (extensions w r s)
+    pub live-full : (r : ℕ) (s : Node) → length s + r ≡ v → keep stop (treeOf gone w r s) ≡ keep good (extensions w r s)
     unfolding treeOf extensions
     live-full zero s h = go (good s) refl
       where
@@ -216,11 +211,11 @@ module _ (gone good : Node → Bool) (v w : ℕ) (hides : (s l : Node) → gone 
         go true e = keep-hit stop s [] (at-full s (omega arith) ∙ e) ∙ ap (λ (l : List Node). s ∷ l) (keep-nil stop ∙ sym (keep-nil good)) ∙ sym (keep-hit good s [] e)
         go false e = keep-miss stop s [] (at-full s (omega arith) ∙ e) ∙ keep-nil stop ∙ sym (keep-nil good) ∙ sym (keep-miss good s [] e)
     live-full (suc r) s h =
-        keep-miss stop s (elim (gone s) [ true ↦ [] | false ↦ inTurn w 0 (λ x. treeOf r (s ++ (x ∷ []))) ]) (before-full s (omega arith))
-        ∙ go (gone s) refl (keep-inTurn stop good (λ x. treeOf r (s ++ (x ∷ []))) (λ x. extensions w r (s ++ (x ∷ []))) (λ x. live-full r (s ++ (x ∷ [])) (grown s r x h)) w 0)
+        keep-miss stop s (elim (gone s) [ true ↦ [] | false ↦ inTurn w 0 (λ x. treeOf gone w r (s ++ (x ∷ []))) ]) (before-full s (omega arith))
+        ∙ go (gone s) refl (keep-inTurn stop good (λ x. treeOf gone w r (s ++ (x ∷ []))) (λ x. extensions w r (s ++ (x ∷ []))) (λ x. live-full r (s ++ (x ∷ [])) (grown s r x h)) w 0)
       where
         go : (b : Bool) → gone s ≡ b
-            → keep stop (inTurn w 0 (λ x. treeOf r (s ++ (x ∷ [])))) ≡ keep good (inTurn w 0 (λ x. extensions w r (s ++ (x ∷ []))))
-            → keep stop (elim b [ true ↦ [] | false ↦ inTurn w 0 (λ x. treeOf r (s ++ (x ∷ []))) ]) ≡ keep good (inTurn w 0 (λ x. extensions w r (s ++ (x ∷ []))))
+            → keep stop (inTurn w 0 (λ x. treeOf gone w r (s ++ (x ∷ [])))) ≡ keep good (inTurn w 0 (λ x. extensions w r (s ++ (x ∷ []))))
+            → keep stop (elim b [ true ↦ [] | false ↦ inTurn w 0 (λ x. treeOf gone w r (s ++ (x ∷ []))) ]) ≡ keep good (inTurn w 0 (λ x. extensions w r (s ++ (x ∷ []))))
         go true e ih = keep-nil stop ∙ sym (keep-none-inTurn good (λ x. extensions w r (s ++ (x ∷ []))) (λ x. hidden r s (x ∷ []) e) w 0)
         go false e ih = ih

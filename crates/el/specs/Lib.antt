@@ -5,6 +5,7 @@ pub mod Meaning
 pub mod Assignment
 pub mod Growth
 pub mod Walk
+pub mod Along
 pub mod ScanLaws
 pub mod StepLaws
 pub mod FirstLaws

@@ -8,9 +8,9 @@
 --   OutcomeSays b o == what the outcome o says under the budget b
 --   outcome-says    == what each outcome says, and when it is given
 --   more-budget     == a larger budget gives the same outcome
-use mathlib.Core.Path.{_≡_, refl, sym, ap, subst, _∙_, fun-ext}
+use mathlib.Core.Path.{_≡_, refl, sym, ap, subst, _∙_}
 use mathlib.Core.Bool.{Bool, true, false, _&&_, not, and-false}
-use mathlib.Core.List.{List, [], _∷_, _++_}
+use mathlib.Core.List.{List, [], _∷_}
 use mathlib.Core.Option.{Option, none, some}
 use Prim.Native.Nat.{ℕ, zero, suc, _^_, _≤_, _<_}
 use native.Mathlib.Omega.{arith}
@@ -21,9 +21,9 @@ use borrow.Author.Tests.{le-leb, lt-leb, ne-eqb}
 use Rattle.el.specs.Test.{everyOf}
 use Rattle.el.specs.Table.{Table, atoms, declared}
 use Rattle.el.specs.Assignment.{Assignment, IsAssignment, solves, Before}
-use Rattle.el.specs.Walk.{Node, dead, full, ends, inTurn, subtree, nodes, firstOf, count, Outcome, solved, nothing, budget, ended, outcome}
+use Rattle.el.specs.Walk.{Node, dead, full, ends, subtree, nodes, firstOf, count, Outcome, solved, nothing, budget, ended, outcome}
 use Rattle.el.specs.TestLaws.{is-true, true-is, and-make, and-left, and-right}
-use Rattle.el.specs.FirstLaws.{extensions, Choices, FirstSays, first-least, first-same, treeOf, live-full}
+use Rattle.el.specs.FirstLaws.{extensions, Choices, FirstSays, first-least, first-same, live-full}
 use Rattle.el.specs.NodeLaws.{dead-hides, full-ends}
 
 -- an assignment of t is a choice of as many sets as there are variables
@@ -51,15 +51,6 @@ unfoldable pub assignments : Table → List Assignment
 assignments t = extensions (2 ^ atoms t) (t .variables) []
 
 module _ (under : ℕ → ℕ → Bool) (t : Table) (known : T (declared t)) where
-  -- the tree of the walk
-  subtree-tree : (r : ℕ) (s : Node)
-      → subtree under t r s ≡ treeOf (dead under t) (solves under t) (t .variables) (2 ^ atoms t) (λ n l e. dead-hides under t known n l e) r s
-  unfolding subtree treeOf
-  subtree-tree zero s = refl
-  subtree-tree (suc r) s =
-      ap (λ (f : ℕ → List Node). s ∷ elim (dead under t s) [ true ↦ [] | false ↦ inTurn (2 ^ atoms t) 0 f ])
-      (fun-ext (λ x. subtree-tree r (s ++ (x ∷ []))))
-
   not-full : (s : Node) → length s < t .variables → ends under t s ≡ false
   unfolding ends full
   not-full s h = let q : length s ≡ t .variables → ⊥ = omega arith in ap (λ (b : Bool). not (dead under t s) && b) (ne-eqb (length s) (t .variables) q) ∙ and-false (not (dead under t s))
@@ -68,8 +59,7 @@ module _ (under : ℕ → ℕ → Bool) (t : Table) (known : T (declared t)) whe
   pub first-solution : firstOf (ends under t) (nodes under t) ≡ firstOf (solves under t) (assignments t)
   unfolding nodes assignments
   first-solution =
-      ap (firstOf (ends under t)) (subtree-tree (t .variables) [])
-      ∙ first-same (ends under t) (solves under t) (treeOf (dead under t) (solves under t) (t .variables) (2 ^ atoms t) (λ n l e. dead-hides under t known n l e) (t .variables) []) (extensions (2 ^ atoms t) (t .variables) [])
+      first-same (ends under t) (solves under t) (subtree under t (t .variables) []) (extensions (2 ^ atoms t) (t .variables) [])
       (live-full (dead under t) (solves under t) (t .variables) (2 ^ atoms t) (λ n l e. dead-hides under t known n l e)
       (ends under t) (λ s h. full-ends under t known s h) (λ s h. not-full s h) (t .variables) [] (omega arith))
 

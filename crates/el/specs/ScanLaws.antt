@@ -1,27 +1,24 @@
 -- The outcome read off the list of nodes by going along it, a node at a time.
 --
---   scan p b n l         == the outcome where n nodes were examined, b more may be, and l is what is left of the list
---   readOff p b n l      == the same, read off the whole list; off-in, off-out, within the budget and beyond
+--   scan-end, scan-spent, scan-solved, scan-on == going along the list, by cases
+--   moves-none, moves-one, moves-on == no node, one node, and some after others
+--   scan-moves           == nodes of which none passes, gone along at once
+--   off-in, off-out      == what is read off the whole list, within the budget and beyond
 --   scan-means           == from the start it is the outcome that `upToFirst` and `firstOf` give
---   scan-end, scan-spent, scan-solved, scan-on == its cases
 use mathlib.Core.Path.{_≡_, refl, sym, ap, ap₂, _∙_}
 use mathlib.Core.Bool.{Bool, true, false}
-use mathlib.Core.List.{List, [], _∷_}
+use mathlib.Core.List.{List, [], _∷_, _++_, append-assoc}
 use mathlib.Core.Option.{Option, some}
-use Prim.Native.Nat.{ℕ, zero, suc, _+_, _≤_, _<_}
+use Prim.Native.Nat.{ℕ, zero, suc, _+_, _-_, _≤_, _<_}
 use native.Mathlib.Omega.{arith}
 use native.Mathlib.Decide.{decLe}
-use native.Mathlib.Nat.{add-zero, zero-add}
+use native.Mathlib.Nat.{add-zero, sub-zero, zero-add}
 use lib.Dec.{leb}
-use lib.ListN.{length}
+use lib.ListN.{length, length-append}
 use borrow.Author.Tests.{le-leb, lt-leb}
 use Rattle.el.specs.Table.{Table}
-use Rattle.el.specs.Walk.{Node, upToFirst, firstOf, examined, count, Outcome, solved, nothing, budget, ended, outcome, ends, nodes}
-
-unfoldable pub scan : (Node → Bool) → ℕ → ℕ → List Node → Outcome
-scan p b n [] = nothing n
-scan p zero n (s ∷ l) = budget n
-scan p (suc b) n (s ∷ l) = elim (p s) [ true ↦ solved (n + 1) s | false ↦ scan p b (n + 1) l ]
+use Rattle.el.specs.Walk.{Node, upToFirst, firstOf, examined, count, solved, nothing, budget, ended, outcome, ends, nodes}
+use Rattle.el.specs.Along.{NonePasses, Moves, scan, readOff}
 
 pub scan-end : (p : Node → Bool) (b n : ℕ) (l : List Node) → l ≡ [] → scan p b n l ≡ nothing n
 unfolding scan
@@ -39,10 +36,39 @@ pub scan-on : (p : Node → Bool) (b n : ℕ) (s : Node) (l : List Node) → p s
 unfolding scan
 scan-on p b n s l e = rw (e, scan)
 
--- what is read off a list at once
-abbrev pub readOff : (Node → Bool) → ℕ → ℕ → List Node → Outcome
-readOff p b n l = elim (leb (length (upToFirst p l)) b) [ true ↦ ended (n + length (upToFirst p l)) (firstOf p l) | false ↦ budget (n + b) ]
+-- ── nodes of which none passes ────────────────────────────────────────────
+none-append : (p : Node → Bool) (l m : List Node) → NonePasses p l → NonePasses p m → NonePasses p (l ++ m)
+none-append p [] m h k = k
+none-append p (s ∷ l) m h k = (h .0, none-append p l m (h .1) k)
 
+module _ {p : Node → Bool} where
+  pub moves-none : {l m : List Node} → l ≡ m → Moves p 0 l m
+  moves-none e = record { seen = []; split = e; many = refl; none-passes = tt }
+
+  pub moves-one : {l m : List Node} (s : Node) → l ≡ s ∷ m → p s ≡ false → Moves p 1 l m
+  moves-one s e h = record { seen = s ∷ []; split = e; many = refl; none-passes = (h, tt) }
+
+  pub moves-on : {i j : ℕ} {l m r : List Node} → Moves p i l m → Moves p j m r → Moves p (i + j) l r
+  moves-on {r = r} a b =
+      record {
+        seen = a .seen ++ b .seen;
+        split = a .split ∙ ap (λ (z : List Node). a .seen ++ z) (b .split) ∙ sym (append-assoc (a .seen) (b .seen) r);
+        many = length-append (a .seen) (b .seen) ∙ ap₂ _+_ (a .many) (b .many);
+        none-passes = none-append p (a .seen) (b .seen) (a .none-passes) (b .none-passes);
+      }
+
+  pub scan-moves : {i : ℕ} {l m : List Node} (b n : ℕ) → Moves p i l m → i ≤ b → scan p b n l ≡ scan p (b - i) (n + i) m
+  scan-moves {i} {l} {m} b n a h =
+      ap (scan p b n) (a .split) ∙ along (a .seen) b n (a .none-passes) (let e = a .many in omega arith) ∙ ap (λ (j : ℕ). scan p (b - j) (n + j) m) (a .many)
+    where
+      along : (seen : List Node) (b n : ℕ) → NonePasses p seen → length seen ≤ b → scan p b n (seen ++ m) ≡ scan p (b - length seen) (n + length seen) m
+      along [] b n q k = ap₂ (λ (x y : ℕ). scan p x y m) (sym (sub-zero b)) (sym (add-zero n))
+      along (s ∷ seen) zero n q k = absurd (let z : ⊥ = omega arith in z)
+      along (s ∷ seen) (suc b) n q k =
+          scan-on p b n s (seen ++ m) (q .0) ∙ along seen b (n + 1) (q .1) (omega arith)
+          ∙ ap₂ (λ (x y : ℕ). scan p x y m) (let z : b - length seen ≡ suc b - suc (length seen) = omega arith in z) (let z : n + 1 + length seen ≡ n + suc (length seen) = omega arith in z)
+
+-- ── what is read off a list at once ───────────────────────────────────────
 pub off-in : (p : Node → Bool) (b n : ℕ) (l : List Node) → length (upToFirst p l) ≤ b
     → readOff p b n l ≡ ended (n + length (upToFirst p l)) (firstOf p l)
 off-in p b n l h = rw (le-leb (length (upToFirst p l)) b h, readOff)

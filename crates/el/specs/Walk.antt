@@ -8,6 +8,7 @@
 --   full t s            == every variable is chosen at s
 --   ends under t s      == s is live and full: it ends the walk
 --   inTurn m x f        == f x, f (x + 1) and so on, m of them, one after the other
+--   treeOf gone w r s   == the nodes from s down, r levels deep, in order: a node that is gone has no children, any other has w
 --   subtree under t r s == the nodes from s down, where r variables are left to choose, in the order of the walk
 --   nodes under t       == the nodes of a walk that nothing ends early
 --   upToFirst p l       == l up to its first element that passes p, that one included
@@ -69,6 +70,10 @@ unfoldable pub inTurn : ℕ → ℕ → (ℕ → List Node) → List Node
 inTurn zero x f = []
 inTurn (suc m) x f = f x ++ inTurn m (x + 1) f
 
+unfoldable pub treeOf : (Node → Bool) → ℕ → ℕ → Node → List Node
+treeOf gone w zero s = s ∷ []
+treeOf gone w (suc r) s = s ∷ elim (gone s) [ true ↦ [] | false ↦ inTurn w 0 (λ x. treeOf gone w r (s ++ (x ∷ []))) ]
+
 module _ (under : ℕ → ℕ → Bool) (t : Table) where
   -- "a ready line fails"
   unfoldable pub fails : Node → Line → Bool
@@ -83,9 +88,8 @@ module _ (under : ℕ → ℕ → Bool) (t : Table) where
   ends s = not (dead s) && full t s
 
   -- "goes depth first, and takes the children of a live node in rising set number from 0 to 2^(c+e) - 1"
-  unfoldable pub subtree : ℕ → Node → List Node
-  subtree zero s = s ∷ []
-  subtree (suc r) s = s ∷ elim (dead s) [ true ↦ [] | false ↦ inTurn (2 ^ atoms t) 0 (λ x. subtree r (s ++ (x ∷ []))) ]
+  abbrev pub subtree : ℕ → Node → List Node
+  subtree = treeOf dead (2 ^ atoms t)
 
   -- "The walk starts at k = 0"
   unfoldable pub nodes : List Node

@@ -195,8 +195,8 @@ fn is_dead(
     fresh_fails(table, over, inner, start, fresh, few, c, e, v, set)
 }
 
-// How a sweep over siblings ended: at a live one, after the last one, or with as many examined as were allowed.
-pub enum End {
+// What stopped a sweep over siblings: a live one, the last one passed, or as many examined as were allowed.
+pub enum Stop {
     Live,
     Over,
     Spent,
@@ -204,7 +204,7 @@ pub enum End {
 
 // How many siblings were examined, and the set number of the one at hand.
 pub struct Swept {
-    pub end: End,
+    pub end: Stop,
     pub passed: u32,
     pub at: u32,
 }
@@ -255,14 +255,14 @@ pub fn sweep(
             &set,
         ) {
             return Swept {
-                end: End::Live,
+                end: Stop::Live,
                 passed,
                 at: x,
             };
         }
         if last <= x {
             return Swept {
-                end: End::Over,
+                end: Stop::Over,
                 passed,
                 at: x,
             };
@@ -271,7 +271,7 @@ pub fn sweep(
     }
     let at = set[y];
     Swept {
-        end: End::Spent,
+        end: Stop::Spent,
         passed,
         at,
     }

@@ -17,7 +17,7 @@ use Rattle.el.specs.Description.{sameRole}
 use Rattle.el.specs.Table.{Table, rowAt, atoms, declared, roleOrder}
 use Rattle.el.specs.Meaning.{holds}
 use Rattle.el.specs.Assignment.{setOf, depends, path, reaches, acyclic, atomUnder, conjoin, setUnder, inducedTo, induced}
-use Rattle.el.specs.Walk.{chosen, lineVariables, settled, ready, fails, dead, full, ends, inTurn, subtree, nodes, upToFirst, firstOf, examined, count, Outcome, solved, nothing, budget, outcome}
+use Rattle.el.specs.Walk.{chosen, lineVariables, settled, ready, fails, dead, full, ends, inTurn, treeOf, nodes, upToFirst, firstOf, examined, count, Outcome, solved, nothing, budget, outcome}
 use Rattle.el.specs.OutcomeLaws.{more-budget}
 use Rattle.table.specs.Code.{kindOf, within, fillerOfKind, fillerOf, entryOfKind, entryOf}
 use Rattle.table.specs.Reading.{marked, versionOne, readHeader, readMany, readRow, readEntry, readLine, readBody, readable, headerOf, reading, tableOf}
@@ -159,7 +159,7 @@ every [] c = tt
 every (k ∷ ks) c = (answers k (c .0), every ks (c .1))
 
 computed : Every Computes cases
-unfolding written setBytes outcome count examined firstOf upToFirst nodes subtree inTurn ends full dead fails ready settled lineVariables chosen induced inducedTo setUnder conjoin atomUnder acyclic reaches path depends setOf holds rowAt atoms anyBelow allBelow anyOf everyOf bit sameRole tableOf reading readBody readLine readEntry readRow readMany readHeader versionOne marked entryOf entryOfKind fillerOf fillerOfKind within kindOf
+unfolding written setBytes outcome count examined firstOf upToFirst nodes treeOf inTurn ends full dead fails ready settled lineVariables chosen induced inducedTo setUnder conjoin atomUnder acyclic reaches path depends setOf holds rowAt atoms anyBelow allBelow anyOf everyOf bit sameRole tableOf reading readBody readLine readEntry readRow readMany readHeader versionOne marked entryOf entryOfKind fillerOf fillerOfKind within kindOf
 computed = ((solved 1 [], refl, refl, (refl, refl), λ out. refl), ((nothing 1, refl, refl, (refl, refl), λ out. refl), ((solved 3 (1 ∷ []), refl, refl, (refl, refl), λ out. refl), ((solved 2 (0 ∷ []), refl, refl, (refl, refl), λ out. refl), ((nothing 3, refl, refl, (refl, refl), λ out. refl), ((solved 3 (1 ∷ []), refl, refl, (refl, refl), λ out. refl), ((solved 5 (3 ∷ []), refl, refl, (refl, refl), λ out. refl), ((solved 14 (2 ∷ 1 ∷ []), refl, refl, (refl, refl), λ out. refl), ((budget 13, refl, refl, refl, λ out. refl), ((nothing 1, refl, refl, (refl, refl), λ out. refl), ((solved 1 [], refl, refl, (refl, refl), λ out. refl), ((nothing 33, refl, refl, (refl, refl), λ out. refl), tt))))))))))))
 
 -- P1 TO P12

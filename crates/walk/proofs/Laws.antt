@@ -1,25 +1,28 @@
 -- Laws of the steps of the walk, over a list of set numbers a and how many are chosen, k.
 --
---   Goes t a₀ k₀ a k   == what comes after the first node comes after the second, and the second is sound where the first is
---   kin-sibling, kin-some == a sibling is a node on the way, and a node on the way has a parent
---   goes-start, goes-up == the loop of `next_node`
---   next-sound         == a sibling of a sound node is sound
---   next-sibling       == where the loop ends at a sibling
---   next-none          == where no node is left
---   looked-dead, looked-solved, looked-down == what examining a node finds
+--   HasEnded going    == the walk does not go on
+--   leads-on, goes-on  == some nodes, and then a step
+--   set-within         == a set number put into a list
+--   next-range, up-range, next-live, up-live == a sibling, and the node above
+--   Climbs t a₀ k₀ a k == what comes after the first node comes after the second, and what is so of the first is so of the second
+--   climbs-start, climbs-up, next-sibling, next-none == the loop of `next_node`
+--   looks-dead, looks-solved, looks-down == what examining a node finds
 --   given-variables, given-chosen, given-node, given-sweep == what the table's counts give
 --   given-table        == the counts, read off the table's bytes
---   zeros, sound-root  == the root
---   turn-solved, turn-on, turn-over == a node of the list, gone along
---   walked-start, walked-spent, walked-found, walked-over, walked-on == the outcome at the start, and after the step that examined a node
---   sibling-next, swept-on == dead siblings, gone along
+--   sibling-next, swept-moves == dead siblings, gone along
 --   advanced-live, advanced-over, advanced-spent == a sweep by its end, and the step after it
---   gone-fits, gone-found, gone-over, gone-on == the outcome, after an advance that the rest of the budget allowed
+--   Running t first counted end sets count == the loop of a run: so far it went along nodes none of which ends the walk
+--   running-start, running-fits, running-on, running-spent, running-ended == its turns and ends
+--   runs-none, runs-one, runs-more == a run by what the first node is
+--   runs-stays, runs-going == a run by its state
+--   zeros, fresh-sound == the root
+--   walked-found, walked-over, walked-spent == the outcome, where a run from the root with the budget as its share ended
 use mathlib.Core.Path.{_≡_, refl, sym, ap, ap₂, subst, _∙_}
 use mathlib.Core.Bool.{Bool, true, false}
 use mathlib.Core.List.{List, [], _∷_}
 use Prim.Native.Nat.{ℕ, zero, suc, _+_, _-_, _^_, _≤_, _<_}
 use native.Mathlib.Nat.{sub-zero, add-zero}
+use native.Mathlib.Numerals.{add-one}
 use native.Mathlib.Omega.{arith}
 use native.Mathlib.Decide.{ℕ-discrete}
 use lib.ListN.{length, getD, take, set, replicate, length-set}
@@ -27,11 +30,12 @@ use lib.Seq.{getD-set-same, getD-set-other, take-set-le, set-getD, set-set}
 use Rattle.el.specs.Description.{sameRole}
 use Rattle.el.specs.Table.{Table, atoms}
 use lib.Dec.{T}
-use lib.Pow.{pow-mono}
+use lib.Pow.{pow-mono, pow-pos}
 use borrow.Author.Tests.{eq-eqb, ne-eqb}
-use Rattle.el.specs.Walk.{Node, dead, full, ends, solved, nothing, budget, outcome}
-use Rattle.el.specs.ScanLaws.{scan, scan-end, scan-spent, scan-solved, scan-on, scan-means}
-use Rattle.el.specs.StepLaws.{remaining, afterwards, remaining-start, remaining-dead, remaining-down, remaining-first, afterwards-hit, afterwards-miss, afterwards-end}
+use Rattle.el.specs.Walk.{Node, dead, full, ends, nodes, solved, nothing, budget, outcome}
+use Rattle.el.specs.Along.{remaining, afterwards, Moves, scan}
+use Rattle.el.specs.ScanLaws.{scan-end, scan-spent, scan-solved, scan-moves, scan-means, moves-none, moves-one, moves-on}
+use Rattle.el.specs.StepLaws.{remaining-start, remaining-gone, remaining-down, remaining-first, afterwards-hit, afterwards-miss, afterwards-end}
 use Rattle.node.specs.declared.Sets.{Sets}
 use Rattle.table.specs.Reading.{byteAt, reading, isReadable, tableOf}
 use Rattle.table.specs.LayoutLaws.{layout}
@@ -39,68 +43,111 @@ use Rattle.node.specs.Node.{nodeOf, Clean, NodeGiven, Prepares}
 use Rattle.node.specs.SquareLaws.{clean-next, clean-up, length-node}
 use Rattle.level.specs.declared.Level.{Level}
 use Rattle.level.specs.declared.Swept.{Swept}
-use Rattle.level.specs.declared.End as level-end
-use Rattle.level.specs.declared.End.the-variants as level-ends
+use Rattle.level.specs.declared.Stop.{Stop}
+use Rattle.level.specs.declared.Stop.the-variants as stop
 use Rattle.level.specs.Level.{Levels, setsOf, siblingOf, ownOf, deadSibling, Passes, SweepsAs, Sweeps, SweepGiven}
 use Rattle.walk.specs.declared.Going.{Going}
 use Rattle.walk.specs.declared.Going.the-variants.{Solved, On, Over}
 use Rattle.walk.specs.declared.Step.{Step}
 use Rattle.walk.specs.declared.Gone.{Gone}
-use Rattle.walk.specs.Step.{SoundAt, Kin, rest, after, deadAt, NextAs, LookedAs, Looked, AdvancesAs, Advances, Given}
+use Rattle.walk.specs.declared.State.{State}
+use Rattle.walk.specs.Step.{InRangeAt, LiveAboveAt, InRange, LiveAbove, Sound, rest, after, deadAt, Leads, Goes, HasParent, Next, Looks, Advances, RunsOn, RunsAs, Runs, Fresh, Given}
 
-unfoldable pub Goes : Table → List ℕ → ℕ → List ℕ → ℕ → Type 0
-Goes t a₀ k₀ a k = (afterwards sameRole t a₀ k₀ ≡ afterwards sameRole t a k) × (SoundAt t a₀ k₀ → SoundAt t a k)
+----------------------------------------------------------------------------------------------------
+-- Some nodes, and then a step
 
-pub kin-sibling : (t : Table) (a : List ℕ) (k y : ℕ) → 0 < k → k ≤ length a → y < 2 ^ atoms t → Kin t (setsOf (set a (k - 1) y) k)
-unfolding Kin
-kin-sibling t a k y h l w = (h, subst (λ (x : ℕ). x < 2 ^ atoms t) (sym (getD-set-same a (k - 1) y 0 (omega arith))) w)
+abbrev pub HasEnded : Going → Type 0
+HasEnded Solved = Unit {0}
+HasEnded On = ⊥
+HasEnded Over = Unit {0}
 
--- a child lies deeper
-kin-child : (t : Table) (sets to : Sets) → sets .chosen < length (sets .set) → 0 < 2 ^ atoms t → to .set ≡ set (sets .set) (sets .chosen) 0 → to .chosen ≡ sets .chosen + 1 → Kin t to
-unfolding Kin
-kin-child t sets to h w p q =
-    (omega arith, subst (λ (x : ℕ). x < 2 ^ atoms t) (sym (ap₂ (λ (l : List ℕ) (i : ℕ). getD l i 0) p (let z : to .chosen - 1 ≡ sets .chosen = omega arith in z) ∙ getD-set-same (sets .set) (sets .chosen) 0 0 h)) w)
+ended-off : (g : Going) → HasEnded g → g ≡ On → ⊥
+ended-off g h e = subst HasEnded e h
 
--- a node on the way has a parent
-pub kin-some : (t : Table) (sets : Sets) → Kin t sets → 0 < sets .chosen
-unfolding Kin
-kin-some t sets kin = kin .0
+leads-on : (t : Table) (i n : ℕ) (l m : List Node) (g : Going) (to : Sets) → Moves (ends sameRole t) i l m → Leads t m n g to → Leads t l (i + n) g to
+leads-on t i n l m Solved to a k = let e : n ≡ k .0 + 1 = k .1 in (i + k .0, omega arith, moves-on a (k .2), k .3)
+leads-on t i n l m On to a k = moves-on a k
+leads-on t i n l m Over to a k = moves-on a k
 
-pub goes-start : (t : Table) (a : List ℕ) (k : ℕ) → Goes t a k a k
-unfolding Goes
-goes-start t a k = (refl, λ s. s)
+pub goes-on : {t : Table} {i n : ℕ} {l m : List Node} {from mid : Sets} {g : Going} {to : Sets} → Moves (ends sameRole t) i l m
+    → (InRange t from → InRange t mid) → (LiveAbove t from → LiveAbove t mid) → Goes t m n mid g to → Goes t l (i + n) from g to
+goes-on {t} {i} {n} {l} {m} {from} {mid} {g} {to} a range live goes =
+    record { leads = leads-on t i n l m g to a (goes .leads); in-range = λ r. goes .in-range (range r); live-above = λ h. goes .live-above (live h) }
 
-module _ (t : Table) (last : ℕ) (width : 2 ^ atoms t ≡ last + 1) (a : List ℕ) (k : ℕ) (some : 0 < k) (fits : k ≤ length a) where
-  above-set : (y : ℕ) → ((j : ℕ) → j < k → dead sameRole t (take j a) ≡ false) → (j : ℕ) → j < k → dead sameRole t (take j (set a (k - 1) y)) ≡ false
-  above-set y f j h = ap (dead sameRole t) (take-set-le j a (k - 1) y (omega arith)) ∙ f j h
+-- what a step says, where it is known where it goes
+goes-as : {t : Table} {l : List Node} {n : ℕ} {from to : Sets} (g h : Going) → g ≡ h → Goes t l n from g to → Goes t l n from h to
+goes-as {t} {l} {n} {from} {to} g h e goes = subst (λ (x : Going). Goes t l n from x to) e goes
 
-  up-sound : SoundAt t a k → SoundAt t (set a (k - 1) 0) (k - 1)
-  unfolding SoundAt
-  up-sound s = (let h : k ≤ t .variables = s .0 in omega arith, clean-up a k some fits (s .1), λ j h. above-set 0 (s .2) j (omega arith))
+----------------------------------------------------------------------------------------------------
+-- A node's siblings, and the node above
 
-  pub next-sound : (y : ℕ) → SoundAt t a k → SoundAt t (set a (k - 1) y) k
-  unfolding SoundAt
-  next-sound y s = (s .0, clean-next a k y some (s .1), above-set y (s .2))
+set-within : (a : List ℕ) (i y w k : ℕ) → i < length a → y < w → ((x : ℕ) → x < k → (x ≡ i → ⊥) → getD a x 0 < w) → (x : ℕ) → x < k → getD (set a i y) x 0 < w
+set-within a i y w k h l f x q = go (ℕ-discrete x i)
+  where
+    go : Dec (x ≡ i) → getD (set a i y) x 0 < w
+    go (yes e) = subst (λ (j : ℕ). getD (set a i y) j 0 < w) (sym e) (subst (λ (z : ℕ). z < w) (sym (getD-set-same a i y 0 h)) l)
+    go (no e) = subst (λ (z : ℕ). z < w) (sym (getD-set-other a i x y 0 e)) (f x q e)
 
-  -- where the node has no sibling left, the walk goes up
-  pub goes-up : (a₀ : List ℕ) (k₀ : ℕ) → last ≤ getD a (k - 1) 0 → Goes t a₀ k₀ a k → Goes t a₀ k₀ (set a (k - 1) 0) (k - 1)
-  unfolding Goes
-  goes-up a₀ k₀ h g = (g .0 ∙ afterwards-miss sameRole t a k some (omega arith), λ s. up-sound (g .1 s))
+pub record Climbs (t : Table) (a₀ : List ℕ) (k₀ : ℕ) (a : List ℕ) (k : ℕ) : Type 0 where
+  pub same : afterwards (dead sameRole t) (2 ^ atoms t) (t .variables) a₀ k₀ ≡ afterwards (dead sameRole t) (2 ^ atoms t) (t .variables) a k
+  pub in-range : InRangeAt t a₀ k₀ → InRangeAt t a k
+  pub live-above : LiveAboveAt t a₀ k₀ → LiveAboveAt t a k
 
-  pub next-sibling : (a₀ : List ℕ) (k₀ : ℕ) → getD a (k - 1) 0 < last → Goes t a₀ k₀ a k
-      → (afterwards sameRole t a₀ k₀ ≡ remaining sameRole t (set a (k - 1) (getD a (k - 1) 0 + 1)) k)
-      × (SoundAt t a₀ k₀ → SoundAt t (set a (k - 1) (getD a (k - 1) 0 + 1)) k)
-      × Kin t (setsOf (set a (k - 1) (getD a (k - 1) 0 + 1)) k)
-  unfolding Goes
-  next-sibling a₀ k₀ h g = (
-    g .0 ∙ afterwards-hit sameRole t a k some fits (omega arith),
-    (λ s. next-sound (getD a (k - 1) 0 + 1) (g .1 s)),
-    kin-sibling t a k (getD a (k - 1) 0 + 1) some fits (omega arith),
-  )
+pub climbs-start : (t : Table) (a : List ℕ) (k : ℕ) → Climbs t a k a k
+climbs-start t a k = record { same = refl; in-range = λ r. r; live-above = λ h. h }
 
-pub next-none : (t : Table) (a₀ : List ℕ) (k₀ : ℕ) (a : List ℕ) (k : ℕ) → k ≡ 0 → Goes t a₀ k₀ a k → afterwards sameRole t a₀ k₀ ≡ []
-unfolding Goes
-next-none t a₀ k₀ a k e g = g .0 ∙ afterwards-end sameRole t a k e
+module _ (t : Table) (a : List ℕ) (k : ℕ) (some : 0 < k) (fits : k ≤ length a) where
+  live-set : (y j : ℕ) → j ≤ k → LiveAboveAt t a k → LiveAboveAt t (set a (k - 1) y) j
+  unfolding LiveAboveAt
+  live-set y j h f i l = ap (dead sameRole t) (take-set-le i a (k - 1) y (omega arith)) ∙ f i (omega arith)
+
+  up-range : InRangeAt t a k → InRangeAt t (set a (k - 1) 0) (k - 1)
+  up-range r =
+      record {
+        few = let h : k ≤ t .variables = r .few in omega arith;
+        sets = set-within a (k - 1) 0 (2 ^ atoms t) (k - 1) (omega arith) (pow-pos (atoms t)) (λ x h _. r .sets x (omega arith));
+        clean = clean-up a k some fits (r .clean);
+      }
+
+  pub next-range : (y : ℕ) → y < 2 ^ atoms t → InRangeAt t a k → InRangeAt t (set a (k - 1) y) k
+  next-range y h r =
+      record {
+        few = r .few;
+        sets = set-within a (k - 1) y (2 ^ atoms t) k (omega arith) h (λ x l _. r .sets x l);
+        clean = clean-next a k y some (r .clean);
+      }
+
+  module _ (last : ℕ) (width : 2 ^ atoms t ≡ last + 1) (a₀ : List ℕ) (k₀ : ℕ) (climbs : Climbs t a₀ k₀ a k) where
+    -- where the node has no sibling left, the walk goes up
+    pub climbs-up : last ≤ getD a (k - 1) 0 → Climbs t a₀ k₀ (set a (k - 1) 0) (k - 1)
+    climbs-up h =
+        record {
+          same = climbs .same ∙ afterwards-miss (dead sameRole t) (2 ^ atoms t) (t .variables) a k some (omega arith);
+          in-range = λ r. up-range (climbs .in-range r);
+          live-above = λ f. live-set 0 (k - 1) (omega arith) (climbs .live-above f);
+        }
+
+    pub next-sibling : getD a (k - 1) 0 < last → Next t (setsOf a₀ k₀) (record { going = On; sets = setsOf (set a (k - 1) (getD a (k - 1) 0 + 1)) k })
+    next-sibling h =
+        record {
+          goes = record {
+            leads = moves-none (unfold after rest in (climbs .same ∙ afterwards-hit (dead sameRole t) (2 ^ atoms t) (t .variables) a k some fits (omega arith)));
+            in-range = λ r. next-range (getD a (k - 1) 0 + 1) (omega arith) (climbs .in-range r);
+            live-above = λ f. live-set (getD a (k - 1) 0 + 1) k (omega arith) (climbs .live-above f);
+          };
+          parent = λ _. some;
+        }
+
+pub next-none : (t : Table) (a₀ : List ℕ) (k₀ : ℕ) (a : List ℕ) (k : ℕ) → k ≡ 0 → Climbs t a₀ k₀ a k → Next t (setsOf a₀ k₀) (record { going = Over; sets = setsOf a 0 })
+next-none t a₀ k₀ a k e climbs =
+    record {
+      goes = record {
+        leads = moves-none (unfold after in (climbs .same ∙ afterwards-end (dead sameRole t) (2 ^ atoms t) (t .variables) a k e));
+        in-range = λ r. subst (InRangeAt t a) e (climbs .in-range r);
+        live-above = λ f. subst (LiveAboveAt t a) e (climbs .live-above f);
+      };
+      parent = λ o. absurd (ended-off Over tt o);
+    }
 
 ----------------------------------------------------------------------------------------------------
 -- Examining the node (take k a)
@@ -118,49 +165,62 @@ module _ (t : Table) (s : Node) where
   unfolding ends full
   ends-part e h = rw (e, ne-eqb (length s) (t .variables) h)
 
-module _ (t : Table) (sets : Sets) (fits : sets .chosen ≤ length (sets .set)) where
-  rest-dead : dead sameRole t (nodeOf sets) ≡ true → rest t sets ≡ nodeOf sets ∷ after t sets
-  unfolding rest after nodeOf
-  rest-dead e = remaining-dead sameRole t (sets .set) (sets .chosen) e
+module _ (t : Table) (sets : Sets) where
+  pub looks-dead : (step : Step) → deadAt t sets ≡ true → Next t sets step → Looks t sets step
+  unfolding deadAt
+  looks-dead step e next =
+      let q : rest t sets ≡ nodeOf sets ∷ after t sets = unfold rest after nodeOf in remaining-gone (dead sameRole t) (2 ^ atoms t) (t .variables) (sets .set) (sets .chosen) e in
+      record { goes = goes-on (moves-one (nodeOf sets) q (ends-dead t (nodeOf sets) e)) (λ r. r) (λ h. h) (next .goes); parent = next .parent }
 
-  pub looked-dead : (g : Going) (to : Sets) → dead sameRole t (nodeOf sets) ≡ true → SoundAt t (sets .set) (sets .chosen) → NextAs t sets g to → LookedAs t sets g to
-  looked-dead Solved to e s n = absurd n
-  looked-dead On to e s n = (ends-dead t (nodeOf sets) e, rest-dead e ∙ ap (λ (l : List Node). nodeOf sets ∷ l) (n .0), n .1 s, n .2)
-  looked-dead Over to e s n = (ends-dead t (nodeOf sets) e, rest-dead e ∙ ap (λ (l : List Node). nodeOf sets ∷ l) n)
+  module _ (fits : sets .chosen ≤ length (sets .set)) (live : deadAt t sets ≡ false) where
+    pub looks-solved : sets .chosen ≡ t .variables → Looks t sets (record { going = Solved; sets = sets })
+    looks-solved h =
+        record {
+          goes = record { leads = (0, refl, moves-none refl, ends-live t (nodeOf sets) (unfold deadAt in live) (length-node sets fits ∙ h)); in-range = λ r. r; live-above = λ f. f };
+          parent = λ o. absurd (ended-off Solved tt o);
+        }
 
-  pub looked-solved : dead sameRole t (nodeOf sets) ≡ false → sets .chosen ≡ t .variables → LookedAs t sets Solved sets
-  looked-solved e h = (ends-live t (nodeOf sets) e (length-node sets fits ∙ h), refl)
+    pub looks-down : (to : Sets) → sets .chosen < length (sets .set) → sets .chosen < t .variables → to .set ≡ set (sets .set) (sets .chosen) 0 → to .chosen ≡ sets .chosen + 1
+        → Looks t sets (record { going = On; sets = to })
+    looks-down to h l p q =
+        record {
+          goes = record {
+            leads = moves-one (nodeOf sets) down (ends-part t (nodeOf sets) here (λ z. let y : sets .chosen ≡ t .variables = sym (length-node sets fits) ∙ z in omega arith));
+            in-range = λ r. subst (InRange t) (sym is-child) (range r);
+            live-above = λ f. subst (LiveAbove t) (sym is-child) (above f);
+          };
+          parent = λ _. omega arith;
+        }
+      where
+        first : Sets
+        first = setsOf (set (sets .set) (sets .chosen) 0) (sets .chosen + 1)
 
-  pub looked-down : (to : Sets) → sets .chosen < length (sets .set) → sets .chosen < t .variables → 0 < 2 ^ atoms t → dead sameRole t (nodeOf sets) ≡ false
-      → SoundAt t (sets .set) (sets .chosen) → to .set ≡ set (sets .set) (sets .chosen) 0 → to .chosen ≡ sets .chosen + 1 → LookedAs t sets On to
-  looked-down to h l w e s p q = (
-    ends-part t (nodeOf sets) e (λ z. let y : sets .chosen ≡ t .variables = sym (length-node sets fits) ∙ z in omega arith),
-    (unfold rest nodeOf in (remaining-down sameRole t (sets .set) (sets .chosen) h l w e ∙ ap₂ (λ (a : List ℕ) (k : ℕ). take (sets .chosen) (sets .set) ∷ remaining sameRole t a k) (sym p) (sym q))),
-    subst (λ (a : List ℕ). SoundAt t a (to .chosen)) (sym p) (subst (SoundAt t (set (sets .set) (sets .chosen) 0)) (sym q) down-sound),
-    kin-child t sets to h w p q,
-  )
-    where
-      unclean : (x : ℕ) → sets .chosen ≤ x → getD (sets .set) x 0 ≡ 0
-      unclean = unfold SoundAt in s .1
+        is-child : to ≡ first
+        is-child = ap₂ (λ (a : List ℕ) (k : ℕ). setsOf a k) p q
 
-      old : (j : ℕ) → j < sets .chosen → dead sameRole t (take j (sets .set)) ≡ false
-      old = unfold SoundAt in s .2
+        here : dead sameRole t (nodeOf sets) ≡ false
+        here = unfold deadAt in live
 
-      clean : (x : ℕ) → sets .chosen + 1 ≤ x → getD (set (sets .set) (sets .chosen) 0) x 0 ≡ 0
-      clean x k = getD-set-other (sets .set) (sets .chosen) x 0 0 (omega arith) ∙ unclean x (omega arith)
+        child-next : rest t sets ≡ nodeOf sets ∷ rest t first
+        child-next = unfold rest nodeOf in remaining-down (dead sameRole t) (2 ^ atoms t) (t .variables) (sets .set) (sets .chosen) h l (pow-pos (atoms t)) here
 
-      here : dead sameRole t (take (sets .chosen) (sets .set)) ≡ false
-      here = unfold nodeOf in e
+        down : rest t sets ≡ nodeOf sets ∷ rest t to
+        down = child-next ∙ ap (λ (x : Sets). nodeOf sets ∷ rest t x) (sym is-child)
 
-      above : (j : ℕ) → j < sets .chosen + 1 → dead sameRole t (take j (set (sets .set) (sets .chosen) 0)) ≡ false
-      above j k = ap (dead sameRole t) (take-set-le j (sets .set) (sets .chosen) 0 (omega arith)) ∙ at (ℕ-discrete j (sets .chosen))
-        where
-          at : Dec (j ≡ sets .chosen) → dead sameRole t (take j (sets .set)) ≡ false
-          at (yes i) = ap (λ (n : ℕ). dead sameRole t (take n (sets .set))) i ∙ here
-          at (no i) = old j (omega arith)
+        range : InRange t sets → InRange t first
+        range r =
+            record {
+              few = omega arith;
+              sets = set-within (sets .set) (sets .chosen) 0 (2 ^ atoms t) (sets .chosen + 1) h (pow-pos (atoms t)) (λ x k n. r .sets x (omega arith));
+              clean = λ x k. getD-set-other (sets .set) (sets .chosen) x 0 0 (omega arith) ∙ r .clean x (omega arith);
+            }
 
-      down-sound : SoundAt t (set (sets .set) (sets .chosen) 0) (sets .chosen + 1)
-      down-sound = unfold SoundAt in (omega arith, clean, above)
+        above : LiveAbove t sets → LiveAbove t first
+        above f = unfold LiveAboveAt in (λ j k. ap (dead sameRole t) (take-set-le j (sets .set) (sets .chosen) 0 (omega arith)) ∙ at j k (ℕ-discrete j (sets .chosen)))
+          where
+            at : (j : ℕ) → j < sets .chosen + 1 → Dec (j ≡ sets .chosen) → dead sameRole t (take j (sets .set)) ≡ false
+            at j k (yes i) = ap (λ (n : ℕ). dead sameRole t (take n (sets .set))) i ∙ (unfold nodeOf in here)
+            at j k (no i) = unfold LiveAboveAt in f j (omega arith)
 
 ----------------------------------------------------------------------------------------------------
 -- The table's counts
@@ -171,40 +231,40 @@ module _ {s : List ℕ} {c e v m last : ℕ} (given : Given s c e v m last) wher
       let l = layout s (given .readable) in let a : tableOf s .variables ≡ byteAt s 7 = l .variables in let b : v ≡ byteAt s 7 = given .variables in
       let f : byteAt s 7 ≤ 12 = l .few-variables in (omega arith, omega arith)
 
-  pub given-chosen : (a : List ℕ) (k : ℕ) → SoundAt (tableOf s) a k → k ≤ v
-  unfolding SoundAt
-  given-chosen a k sound = let h : k ≤ tableOf s .variables = sound .0 in let q = given-variables in omega arith
+  module _ (sets : Sets) (range : InRange (tableOf s) sets) where
+    pub given-chosen : sets .chosen ≤ v
+    given-chosen = let h : sets .chosen ≤ tableOf s .variables = range .few in let q = given-variables in omega arith
 
-  pub given-node : (sets : Sets) → SoundAt (tableOf s) (sets .set) (sets .chosen) → NodeGiven s c e v m sets
-  given-node sets sound =
-      record {
-        readable = given .readable;
-        constants = given .constants;
-        restrictions = given .restrictions;
-        variables = given .variables;
-        lines = given .lines;
-        chosen = given-chosen (sets .set) (sets .chosen) sound;
-        clean = unfold SoundAt Clean in sound .1;
-      }
+    pub given-node : NodeGiven s c e v m sets
+    given-node =
+        record {
+          readable = given .readable;
+          constants = given .constants;
+          restrictions = given .restrictions;
+          variables = given .variables;
+          lines = given .lines;
+          chosen = given-chosen;
+          clean = unfold Clean in range .clean;
+        }
 
-  -- what a sweep from the node asks
-  pub given-sweep : (fill mask start : List ℕ) (level : Level) (sets : Sets) → Prepares s fill mask start → SoundAt (tableOf s) (sets .set) (sets .chosen) → Kin (tableOf s) sets
-      → Levels (tableOf s) (take (sets .chosen - 1) (sets .set)) m level → SweepGiven s start level c e v m sets last
-  unfolding Kin SoundAt
-  given-sweep fill mask start level sets prepared sound kin levels =
-      record {
-        child = λ room. record {
-          node = given-node sets sound;
-          starts = prepared .starts;
-          start-room = prepared .start-room;
-          room = room;
-          some = kin .0;
-          level = levels;
-          live = let h : 0 < sets .chosen = kin .0 in sound .2 (sets .chosen - 1) (omega arith);
-        };
-        first = let h : getD (sets .set) (sets .chosen - 1) 0 < 2 ^ atoms (tableOf s) = kin .1 in let w : 2 ^ atoms (tableOf s) ≡ last + 1 = given .width in omega arith;
-        narrow = given .narrow;
-      }
+    -- what a sweep from the node asks
+    pub given-sweep : (fill mask start : List ℕ) (level : Level) → Prepares s fill mask start → LiveAbove (tableOf s) sets → 0 < sets .chosen
+        → Levels (tableOf s) (take (sets .chosen - 1) (sets .set)) m level → SweepGiven s start level c e v m sets last
+    unfolding LiveAboveAt
+    given-sweep fill mask start level prepared live some levels =
+        record {
+          child = λ room. record {
+            node = given-node;
+            starts = prepared .starts;
+            start-room = prepared .start-room;
+            room = room;
+            some = some;
+            level = levels;
+            live = live (sets .chosen - 1) (omega arith);
+          };
+          first = let h : getD (sets .set) (sets .chosen - 1) 0 < 2 ^ atoms (tableOf s) = range .sets (sets .chosen - 1) (omega arith) in let w : 2 ^ atoms (tableOf s) ≡ last + 1 = given .width in omega arith;
+          narrow = given .narrow;
+        }
 
 -- the counts, read off the table's bytes
 pub given-table : (s : List ℕ) (c e v m last : ℕ) → T (isReadable (reading s)) → c ≡ byteAt s 5 → v ≡ byteAt s 7 → e ≡ byteAt s 8 → m ≡ byteAt s 9 → last + 1 ≡ 2 ^ (c + e) → Given s c e v m last
@@ -225,64 +285,6 @@ given-table s c e v m last ok hc hv he hm hl =
     count : atoms (tableOf s) ≡ c + e
     count = unfold atoms in (let a = layout s ok .constants in let b = layout s ok .rows in omega arith)
 
--- the root
-pub zeros : (n x : ℕ) → _≡_ {A = ℕ} (getD (replicate n 0) x 0) 0
-zeros zero x = refl
-zeros (suc n) zero = refl
-zeros (suc n) (suc x) = zeros n x
-
-pub sound-root : (t : Table) (a : List ℕ) → ((x : ℕ) → getD a x 0 ≡ 0) → SoundAt t a 0
-unfolding SoundAt
-sound-root t a f = (omega arith, (λ x _. f x), λ j h. absurd (let z : ⊥ = omega arith in z))
-
-----------------------------------------------------------------------------------------------------
--- A turn of the loop
-
-module _ (p : Node → Bool) (b n : ℕ) (more : n < b) where
-  less : b - n ≡ suc (b - (n + 1))
-  less = omega arith
-
-  turn-solved : (l m : List Node) (s : Node) → l ≡ s ∷ m → p s ≡ true → scan p (b - n) n l ≡ solved (n + 1) s
-  turn-solved l m s e h = ap₂ (λ (k : ℕ) (z : List Node). scan p k n z) less e ∙ scan-solved p (b - (n + 1)) n s m h
-
-  turn-on : (l m : List Node) (s : Node) → l ≡ s ∷ m → p s ≡ false → scan p (b - n) n l ≡ scan p (b - (n + 1)) (n + 1) m
-  turn-on l m s e h = ap₂ (λ (k : ℕ) (z : List Node). scan p k n z) less e ∙ scan-on p (b - (n + 1)) n s m h
-
-  turn-over : (l : List Node) (s : Node) → l ≡ s ∷ [] → p s ≡ false → scan p (b - n) n l ≡ nothing (n + 1)
-  turn-over l s e h = turn-on l [] s e h ∙ scan-end p (b - (n + 1)) (n + 1) [] refl
-
--- the start, at the root
-pub walked-start : (t : Table) (b : ℕ) (sets : Sets) → sets .chosen ≡ 0 → outcome sameRole t b ≡ scan (ends sameRole t) (b - 0) 0 (rest t sets)
-unfolding rest
-walked-start t b sets e =
-    scan-means sameRole t b
-    ∙ ap₂ (λ (k : ℕ) (l : List Node). scan (ends sameRole t) k 0 l) (sym (sub-zero b)) (remaining-start sameRole t (sets .set) ∙ ap (remaining sameRole t (sets .set)) (sym e))
-
--- the outcome, after the step that examined the node of `sets`
-module _ (t : Table) (b n : ℕ) (sets : Sets) (inv : outcome sameRole t b ≡ scan (ends sameRole t) (b - n) n (rest t sets)) where
-  first : (l : List Node) × (rest t sets ≡ nodeOf sets ∷ l)
-  unfolding rest nodeOf
-  first = remaining-first sameRole t (sets .set) (sets .chosen)
-
-  pub walked-spent : b ≡ n → outcome sameRole t b ≡ budget n
-  walked-spent e = inv ∙ ap (scan (ends sameRole t) (b - n) n) (first .1) ∙ scan-spent (ends sameRole t) (b - n) n (nodeOf sets) (first .0) (omega arith)
-
-  module _ (more : n < b) (g : Going) (to : Sets) (looked : LookedAs t sets g to) where
-    pub walked-found : g ≡ Solved → (outcome sameRole t b ≡ solved (n + 1) (nodeOf to)) × (to ≡ sets)
-    walked-found e =
-        let k : LookedAs t sets Solved to = subst (λ (x : Going). LookedAs t sets x to) e looked in
-        (inv ∙ turn-solved (ends sameRole t) b n more (rest t sets) (first .0) (nodeOf sets) (first .1) (k .0) ∙ ap (λ (x : Sets). solved (n + 1) (nodeOf x)) (sym (k .1)), k .1)
-
-    pub walked-over : g ≡ Over → outcome sameRole t b ≡ nothing (n + 1)
-    walked-over e =
-        let k : LookedAs t sets Over to = subst (λ (x : Going). LookedAs t sets x to) e looked in
-        inv ∙ turn-over (ends sameRole t) b n more (rest t sets) (nodeOf sets) (k .1) (k .0)
-
-    pub walked-on : g ≡ On → SoundAt t (to .set) (to .chosen) × Kin t to × (outcome sameRole t b ≡ scan (ends sameRole t) (b - (n + 1)) (n + 1) (rest t to))
-    walked-on e =
-        let k : LookedAs t sets On to = subst (λ (x : Going). LookedAs t sets x to) e looked in
-        (k .2, k .3, inv ∙ turn-on (ends sameRole t) b n more (rest t sets) (rest t to) (nodeOf sets) (k .1) (k .0))
-
 ----------------------------------------------------------------------------------------------------
 -- A sweep over siblings
 
@@ -295,114 +297,230 @@ module _ (t : Table) (last : ℕ) (width : 2 ^ atoms t ≡ last + 1) (sets : Set
   unfolding rest nodeOf deadSibling
   sibling-next x h e =
       let q : getD (siblingOf sets x) (sets .chosen - 1) 0 ≡ x = getD-set-same (sets .set) (sets .chosen - 1) x 0 (omega arith) in
-      remaining-dead sameRole t (siblingOf sets x) (sets .chosen) e
+      remaining-gone (dead sameRole t) (2 ^ atoms t) (t .variables) (siblingOf sets x) (sets .chosen) e
       ∙ ap (λ (l : List Node). take (sets .chosen) (siblingOf sets x) ∷ l)
-      (afterwards-hit sameRole t (siblingOf sets x) (sets .chosen) some (let w : length (siblingOf sets x) ≡ length (sets .set) = length-set (sets .set) (sets .chosen - 1) x in omega arith) (omega arith)
-      ∙ ap (λ (l : List ℕ). remaining sameRole t l (sets .chosen)) (ap (λ (y : ℕ). set (siblingOf sets x) (sets .chosen - 1) (y + 1)) q ∙ set-set (sets .set) (sets .chosen - 1) x (x + 1)))
+      (afterwards-hit (dead sameRole t) (2 ^ atoms t) (t .variables) (siblingOf sets x) (sets .chosen) some (let w : length (siblingOf sets x) ≡ length (sets .set) = length-set (sets .set) (sets .chosen - 1) x in omega arith) (omega arith)
+      ∙ ap (λ (l : List ℕ). remaining (dead sameRole t) (2 ^ atoms t) (t .variables) l (sets .chosen)) (ap (λ (y : ℕ). set (siblingOf sets x) (sets .chosen - 1) (y + 1)) q ∙ set-set (sets .set) (sets .chosen - 1) x (x + 1)))
 
   -- i dead siblings, gone along
-  swept-on : (b n : ℕ) → outcome sameRole t b ≡ scan (ends sameRole t) (b - n) n (rest t sets)
-      → (i : ℕ) → ownOf sets + i ≤ last → n + i ≤ b → Passes t sets i → outcome sameRole t b ≡ scan (ends sameRole t) (b - (n + i)) (n + i) (rest t (sibling (ownOf sets + i)))
-  unfolding rest
-  swept-on b n inv zero h l p =
-      inv ∙ ap₂ (λ (k : ℕ) (a : List ℕ). scan (ends sameRole t) (b - k) k (remaining sameRole t a (sets .chosen))) (sym (add-zero n))
-      (sym (ap (set (sets .set) (sets .chosen - 1)) (add-zero (ownOf sets)) ∙ set-getD (sets .set) (sets .chosen - 1) 0))
-  swept-on b n inv (suc i) h l p =
-      swept-on b n inv i (omega arith) (omega arith) (unfold Passes in λ j k. p j (omega arith))
-      ∙ turn-on (ends sameRole t) b (n + i) (omega arith) (rest t (sibling (ownOf sets + i))) (rest t (sibling (ownOf sets + i + 1))) (nodeOf (sibling (ownOf sets + i)))
-      (sibling-next (ownOf sets + i) (omega arith) here) (ends-dead t (nodeOf (sibling (ownOf sets + i))) (unfold nodeOf deadSibling in here))
-      ∙ ap₂ (λ (k x : ℕ). scan (ends sameRole t) (b - k) k (rest t (sibling x))) (omega arith) (omega arith)
+  swept-moves : (i : ℕ) → ownOf sets + i ≤ last → Passes t sets i → Moves (ends sameRole t) i (rest t sets) (rest t (sibling (ownOf sets + i)))
+  swept-moves zero h p =
+      moves-none (unfold rest in ap (λ (a : List ℕ). remaining (dead sameRole t) (2 ^ atoms t) (t .variables) a (sets .chosen)) (sym (ap (set (sets .set) (sets .chosen - 1)) (add-zero (ownOf sets)) ∙ set-getD (sets .set) (sets .chosen - 1) 0)))
+  swept-moves (suc i) h p =
+      subst (λ (n : ℕ). Moves (ends sameRole t) n (rest t sets) (rest t (sibling (ownOf sets + suc i)))) (add-one i)
+      (moves-on (swept-moves i (omega arith) (unfold Passes in λ j k. p j (omega arith)))
+      (moves-one (nodeOf (sibling (ownOf sets + i))) (sibling-next (ownOf sets + i) (omega arith) here ∙ ap (λ (x : ℕ). nodeOf (sibling (ownOf sets + i)) ∷ rest t (sibling x)) next)
+      (ends-dead t (nodeOf (sibling (ownOf sets + i))) (unfold nodeOf deadSibling in here))))
     where
       here : deadSibling t sets (ownOf sets + i) ≡ true
       here = unfold Passes in p i (omega arith)
 
+      next : ownOf sets + i + 1 ≡ ownOf sets + suc i
+      next = omega arith
+
   -- the sweep of at most `most` siblings, and the node `here` where it ended
-  module _ (v : ℕ) (count : v ≡ t .variables) (sound : SoundAt t (sets .set) (sets .chosen)) (most : ℕ) (swept : Swept) (sweeps : Sweeps t sets last most swept) (here : Sets)
+  module _ (most : ℕ) (swept : Swept) (sweeps : Sweeps t sets last most swept) (here : Sets)
       (set-is : here .set ≡ siblingOf sets (swept .at)) (chosen-is : here .chosen ≡ sets .chosen) where
     is-sibling : here ≡ sibling (swept .at)
     is-sibling = ap₂ (λ (a : List ℕ) (k : ℕ). setsOf a k) set-is chosen-is
 
-    here-sound : SoundAt t (here .set) (here .chosen)
-    here-sound = subst (λ (x : Sets). SoundAt t (x .set) (x .chosen)) (sym is-sibling) (next-sound t last width (sets .set) (sets .chosen) some fits (swept .at) sound)
+    here-range : InRange t sets → InRange t here
+    here-range r = subst (InRange t) (sym is-sibling) (next-range t (sets .set) (sets .chosen) some fits (swept .at) (let w : swept .at ≤ last = sweeps .within in omega arith) r)
 
-    here-few : here .chosen ≤ v
-    here-few = unfold SoundAt in (let h : here .chosen ≤ t .variables = here-sound .0 in omega arith)
+    here-live : LiveAbove t sets → LiveAbove t here
+    here-live f = subst (LiveAbove t) (sym is-sibling) (live-set t (sets .set) (sets .chosen) some fits (swept .at) (sets .chosen) (omega arith) f)
 
-    here-dead : deadSibling t sets (swept .at) ≡ deadAt t here
+    pub here-dead : deadSibling t sets (swept .at) ≡ deadAt t here
     here-dead = unfold deadSibling deadAt nodeOf in ap (λ (x : Sets). dead sameRole t (take (x .chosen) (x .set))) (sym is-sibling)
 
-    here-on : (b n : ℕ) → outcome sameRole t b ≡ scan (ends sameRole t) (b - n) n (rest t sets)
-        → (i : ℕ) → swept .at ≡ ownOf sets + i → n + i ≤ b → Passes t sets i → outcome sameRole t b ≡ scan (ends sameRole t) (b - (n + i)) (n + i) (rest t here)
-    here-on b n inv i e l p =
-        swept-on b n inv i (let w : swept .at ≤ last = sweeps .within in omega arith) l p
-        ∙ ap (λ (x : Sets). scan (ends sameRole t) (b - (n + i)) (n + i) (rest t x)) (ap sibling (sym e) ∙ sym is-sibling)
-
-    -- i siblings are dead, and the one at hand is examined
-    advanced : (i : ℕ) → swept .passed ≡ i + 1 → swept .at ≡ ownOf sets + i → Passes t sets i → (g : Going) (to : Sets) → LookedAs t here g to
-        → (b n : ℕ) → n + most ≡ b → outcome sameRole t b ≡ scan (ends sameRole t) (b - n) n (rest t sets) → AdvancesAs t v b (n + swept .passed) g to
-    advanced i all e p g to looked b n total inv = go g looked
-      where
-        more : n + i < b
-        more = let f : swept .passed ≤ most = sweeps .few in omega arith
-
-        so-far : outcome sameRole t b ≡ scan (ends sameRole t) (b - (n + i)) (n + i) (rest t here)
-        so-far = here-on b n inv i e (omega arith) p
-
-        passed : n + i + 1 ≡ n + swept .passed
-        passed = omega arith
-
-        go : (g : Going) → LookedAs t here g to → AdvancesAs t v b (n + swept .passed) g to
-        go Solved k =
-            let w = walked-found t b (n + i) here so-far more Solved to k refl in
-            (w .0 ∙ ap (λ (x : ℕ). solved x (nodeOf to)) passed, subst (λ (x : Sets). x .chosen ≤ v) (sym (w .1)) here-few)
-        go On k =
-            let w = walked-on t b (n + i) here so-far more On to k refl in
-            (w .0, w .1, w .2 ∙ ap (λ (x : ℕ). scan (ends sameRole t) (b - x) x (rest t to)) passed)
-        go Over k = walked-over t b (n + i) here so-far more Over to k refl ∙ ap nothing passed
+    here-moves : (i : ℕ) → swept .at ≡ ownOf sets + i → Passes t sets i → Moves (ends sameRole t) i (rest t sets) (rest t here)
+    here-moves i e p =
+        subst (λ (x : Sets). Moves (ends sameRole t) i (rest t sets) (rest t x)) (ap sibling (sym e) ∙ sym is-sibling)
+        (swept-moves i (let w : swept .at ≤ last = sweeps .within in omega arith) p)
 
     -- what the sweep says, by its end
-    as-ended : (x : level-end.End) → swept .end ≡ x → SweepsAs t sets last most x (swept .passed) (swept .at)
-    as-ended x e = subst (λ (z : level-end.End). SweepsAs t sets last most z (swept .passed) (swept .at)) e (sweeps .ends)
+    as-ended : (x : Stop) → swept .end ≡ x → SweepsAs t sets last most x (swept .passed) (swept .at)
+    as-ended x e = subst (λ (z : Stop). SweepsAs t sets last most z (swept .passed) (swept .at)) e (sweeps .ends)
 
-    module _ (step : Step) (d : Bool) (looks : SoundAt t (here .set) (here .chosen) → d ≡ deadAt t here → Looked t here step) where
-      looked-here : deadSibling t sets (swept .at) ≡ d → LookedAs t here (step .going) (step .sets)
-      looked-here e = unfold Looked in looks here-sound (sym e ∙ here-dead)
+    module _ (step : Step) where
+      -- i siblings are dead, and the one at hand is examined
+      advanced : (i : ℕ) → swept .passed ≡ i + 1 → swept .at ≡ ownOf sets + i → Passes t sets i → Looks t here step → Advances t sets most (record { going = step .going; sets = step .sets; passed = swept .passed })
+      advanced i all e p looks =
+          record {
+            some = omega arith;
+            few = sweeps .few;
+            goes = subst (λ (n : ℕ). Goes t (rest t sets) n sets (step .going) (step .sets)) (sym all) (goes-on (here-moves i e p) here-range here-live (looks .goes));
+            parent = looks .parent;
+          }
 
-      advanced-by : (i : ℕ) → swept .passed ≡ i + 1 → swept .at ≡ ownOf sets + i → Passes t sets i → deadSibling t sets (swept .at) ≡ d → Advances t v sets most (record { going = step .going; sets = step .sets; passed = swept .passed })
-      unfolding Advances
-      advanced-by i all e p z = (omega arith, sweeps .few, advanced i all e p (step .going) (step .sets) (looked-here z))
+      pub advanced-live : swept .end ≡ stop.Live → (deadAt t here ≡ false → Looks t here step) → Advances t sets most (record { going = step .going; sets = step .sets; passed = swept .passed })
+      advanced-live e looks = let w = as-ended stop.Live e in advanced (w .0) (w .1) (w .2) (w .3) (looks (sym here-dead ∙ w .4))
 
-      pub advanced-live : d ≡ false → swept .end ≡ level-ends.Live → Advances t v sets most (record { going = step .going; sets = step .sets; passed = swept .passed })
-      advanced-live z e = let w = as-ended level-ends.Live e in advanced-by (w .0) (w .1) (w .2) (w .3) (w .4 ∙ sym z)
-
-      pub advanced-over : d ≡ true → swept .end ≡ level-ends.Over → Advances t v sets most (record { going = step .going; sets = step .sets; passed = swept .passed })
-      advanced-over z e = let w = as-ended level-ends.Over e in advanced-by (w .0) (w .1) (w .2) (w .3) (w .4 ∙ sym z)
+      pub advanced-over : swept .end ≡ stop.Over → Next t here step → Advances t sets most (record { going = step .going; sets = step .sets; passed = swept .passed })
+      advanced-over e next = let w = as-ended stop.Over e in advanced (w .0) (w .1) (w .2) (w .3) (looks-dead t here step (sym here-dead ∙ w .4) next)
 
     -- all that were allowed are dead
-    pub advanced-spent : swept .end ≡ level-ends.Spent → 0 < most → Advances t v sets most (record { going = On; sets = here; passed = swept .passed })
-    unfolding Advances
+    pub advanced-spent : swept .end ≡ stop.Spent → 0 < most → Advances t sets most (record { going = On; sets = here; passed = swept .passed })
     advanced-spent e h =
-        let w = as-ended level-ends.Spent e in
+        let w = as-ended stop.Spent e in
         let q : swept .passed ≡ most = w .0 in
-        (omega arith, sweeps .few, λ b n total inv. (here-sound, here-kin, here-on b n inv (swept .passed) (w .1) (omega arith) (w .2)))
-      where
-        here-kin : Kin t here
-        here-kin = subst (Kin t) (sym is-sibling) (kin-sibling t (sets .set) (sets .chosen) (swept .at) some fits (let f : swept .at ≤ last = sweeps .within in omega arith))
+        record {
+          some = omega arith;
+          few = sweeps .few;
+          goes = record { leads = here-moves (swept .passed) (w .1) (w .2); in-range = here-range; live-above = here-live };
+          parent = λ _. omega arith;
+        }
 
--- the outcome, after the advance that the rest of the budget allowed
-module _ (t : Table) (v b n : ℕ) (sets : Sets) (more : n < b) (inv : outcome sameRole t b ≡ scan (ends sameRole t) (b - n) n (rest t sets)) (gone : Gone) (advances : Advances t v sets (b - n) gone) where
-  pub gone-fits : (0 < gone .passed) × (n + gone .passed ≤ b)
-  gone-fits = unfold Advances in (advances .0, let h : gone .passed ≤ b - n = advances .1 in omega arith)
+----------------------------------------------------------------------------------------------------
+-- A run
 
-  gone-as : (g : Going) → gone .going ≡ g → AdvancesAs t v b (n + gone .passed) g (gone .sets)
-  gone-as g e = subst (λ (x : Going). AdvancesAs t v b (n + gone .passed) x (gone .sets)) e (unfold Advances in advances .2 b n (omega arith) inv)
+pub record Running (t : Table) (first : Sets) (counted end : ℕ) (sets : Sets) (count : ℕ) : Type 0 where
+  pub many : ℕ
+  pub counted-is : count ≡ counted + many
+  pub few : count ≤ end
+  pub goes : Goes t (rest t first) many first On sets
+  pub sound : Sound t sets
+  pub parent : 0 < sets .chosen
 
-  pub gone-found : gone .going ≡ Solved → (outcome sameRole t b ≡ solved (n + gone .passed) (nodeOf (gone .sets))) × (gone .sets .chosen ≤ v)
-  gone-found e = gone-as Solved e
+pub running-start : (t : Table) (first : Sets) (counted end : ℕ) → counted ≤ end → Sound t first → 0 < first .chosen → Running t first counted end first counted
+running-start t first counted end h sound some =
+    record {
+      many = 0;
+      counted-is = sym (add-zero counted);
+      few = h;
+      goes = record { leads = moves-none refl; in-range = λ r. r; live-above = λ f. f };
+      sound = sound;
+      parent = some;
+    }
 
-  pub gone-over : gone .going ≡ Over → outcome sameRole t b ≡ nothing (n + gone .passed)
-  gone-over e = gone-as Over e
+module _ {t : Table} {first : Sets} {counted end : ℕ} {sets : Sets} {count : ℕ} (running : Running t first counted end sets count) where
+  -- the share is spent
+  pub running-spent : (share : ℕ) → end ≡ counted + share → end ≤ count → RunsOn t first counted share (record { going = On; sets = sets; count = count })
+  running-spent share e h =
+      let q : count ≡ counted + running .many = running .counted-is in let f : count ≤ end = running .few in
+      record { many = running .many; few = omega arith; whole = λ _. omega arith; counted = q; goes = running .goes }
 
-  pub gone-on : gone .going ≡ On
-      → SoundAt t (gone .sets .set) (gone .sets .chosen) × Kin t (gone .sets) × (outcome sameRole t b ≡ scan (ends sameRole t) (b - (n + gone .passed)) (n + gone .passed) (rest t (gone .sets)))
-  gone-on e = gone-as On e
+  module _ (gone : Gone) (more : count < end) (advances : Advances t sets (end - count) gone) where
+    pub running-fits : (0 < gone .passed) × (count + gone .passed ≤ end)
+    running-fits = (advances .some, let h : gone .passed ≤ end - count = advances .few in omega arith)
+
+    all : Goes t (rest t first) (running .many + gone .passed) first (gone .going) (gone .sets)
+    all = goes-on (running .goes .leads) (running .goes .in-range) (running .goes .live-above) (advances .goes)
+
+    pub running-on : gone .going ≡ On → Running t first counted end (gone .sets) (count + gone .passed)
+    running-on e =
+        record {
+          many = running .many + gone .passed;
+          counted-is = let q : count ≡ counted + running .many = running .counted-is in omega arith;
+          few = running-fits .1;
+          goes = goes-as (gone .going) On e all;
+          sound = record { in-range = advances .goes .in-range (running .sound .in-range); live-above = advances .goes .live-above (running .sound .live-above) };
+          parent = advances .parent e;
+        }
+
+    pub running-ended : (g : Going) → gone .going ≡ g → HasEnded g → (share : ℕ) → end ≡ counted + share → RunsOn t first counted share (record { going = g; sets = gone .sets; count = count + gone .passed })
+    running-ended g e off share i =
+        let q : count ≡ counted + running .many = running .counted-is in let f = running-fits in
+        record { many = running .many + gone .passed; few = omega arith; whole = λ o. absurd (ended-off g off o); counted = omega arith; goes = goes-as (gone .going) g e all }
+
+-- a share of none
+pub runs-none : (t : Table) (sets : Sets) (count share : ℕ) → share ≡ 0 → RunsOn t sets count share (record { going = On; sets = sets; count = count })
+runs-none t sets count share e =
+    record { many = 0; few = omega arith; whole = λ _. sym e; counted = sym (add-zero count); goes = record { leads = moves-none refl; in-range = λ r. r; live-above = λ f. f } }
+
+-- the first node is looked at
+module _ {t : Table} {sets : Sets} {step : Step} (looks : Looks t sets step) (count share : ℕ) (some : 0 < share) where
+  pub runs-one : (g : Going) → step .going ≡ g → HasEnded g → RunsOn t sets count share (record { going = g; sets = step .sets; count = count + 1 })
+  runs-one g e off = record { many = 1; few = some; whole = λ o. absurd (ended-off g off o); counted = refl; goes = goes-as (step .going) g e (looks .goes) }
+
+  next : step .going ≡ On → Goes t (rest t sets) 1 sets On (step .sets)
+  next e = goes-as (step .going) On e (looks .goes)
+
+  pub looks-sound : step .going ≡ On → Sound t sets → Sound t (step .sets)
+  looks-sound e sound = record { in-range = looks .goes .in-range (sound .in-range); live-above = looks .goes .live-above (sound .live-above) }
+
+  pub runs-more : {state : State} → step .going ≡ On → RunsOn t (step .sets) (count + 1) (share - 1) state → RunsOn t sets count share state
+  runs-more {state} e runs =
+      let f : runs .many ≤ share - 1 = runs .few in let q : state .count ≡ count + 1 + runs .many = runs .counted in
+      record {
+        many = 1 + runs .many;
+        few = omega arith;
+        whole = λ o. let w : runs .many ≡ share - 1 = runs .whole o in omega arith;
+        counted = omega arith;
+        goes = goes-on (next e .leads) (looks .goes .in-range) (looks .goes .live-above) (runs .goes);
+      }
+
+-- a state that has ended, and one that goes on
+pub runs-stays : (t : Table) (state : State) (share : ℕ) (g : Going) → state .going ≡ g → HasEnded g → Runs t state share state
+unfolding Runs
+runs-stays t state share g e h = subst (λ (x : Going). RunsAs t x state share state) (sym e) (at g h)
+  where
+    at : (g : Going) → HasEnded g → RunsAs t g state share state
+    at Solved _ = refl
+    at On z = absurd z
+    at Over _ = refl
+
+pub runs-going : (t : Table) (state : State) (share : ℕ) (to : State) → state .going ≡ On → RunsOn t (state .sets) (state .count) share to → Runs t state share to
+unfolding Runs
+runs-going t state share to e r = subst (λ (x : Going). RunsAs t x state share to) (sym e) r
+
+----------------------------------------------------------------------------------------------------
+-- The walk: a run from the root with the budget as its share
+
+pub zeros : (n x : ℕ) → _≡_ {A = ℕ} (getD (replicate n 0) x 0) 0
+zeros zero x = refl
+zeros (suc n) zero = refl
+zeros (suc n) (suc x) = zeros n x
+
+module _ (t : Table) (root : State) (fresh : Fresh root) where
+  pub fresh-sound : Sound t (root .sets)
+  unfolding LiveAboveAt
+  fresh-sound =
+      let e : root .sets .chosen ≡ 0 = fresh .none-chosen in
+      record {
+        in-range = record { few = omega arith; sets = λ x h. absurd (let z : ⊥ = omega arith in z); clean = λ x _. fresh .empty x };
+        live-above = λ j h. absurd (let z : ⊥ = omega arith in z);
+      }
+
+  module _ (b : ℕ) (state : State) (runs : Runs t root b state) where
+    run : RunsOn t (root .sets) (root .count) b state
+    run = subst (λ (g : Going). RunsAs t g root b state) (fresh .going) (unfold Runs in runs)
+
+    pub walked-few : state .sets .chosen ≤ t .variables
+    walked-few = run .goes .in-range (fresh-sound .in-range) .few
+
+    counted : state .count ≡ run .many
+    counted = let q : state .count ≡ root .count + run .many = run .counted in let z : root .count ≡ 0 = fresh .none-counted in omega arith
+
+    leads : (g : Going) → state .going ≡ g → Leads t (rest t (root .sets)) (run .many) g (state .sets)
+    leads g e = goes-as (state .going) g e (run .goes) .leads
+
+    first : (l : List Node) × (rest t (state .sets) ≡ nodeOf (state .sets) ∷ l)
+    unfolding rest nodeOf
+    first = remaining-first (dead sameRole t) (2 ^ atoms t) (t .variables) (state .sets .set) (state .sets .chosen)
+
+    start : outcome sameRole t b ≡ scan (ends sameRole t) b 0 (rest t (root .sets))
+    unfolding rest nodes
+    start =
+        scan-means sameRole t b
+        ∙ ap (scan (ends sameRole t) b 0) (remaining-start (dead sameRole t) (2 ^ atoms t) (t .variables) (root .sets .set) ∙ ap (remaining (dead sameRole t) (2 ^ atoms t) (t .variables) (root .sets .set)) (sym (fresh .none-chosen)))
+
+    pub walked-found : state .going ≡ Solved → solved (state .count) (nodeOf (state .sets)) ≡ outcome sameRole t b
+    walked-found e =
+        let k = leads Solved e in let q : run .many ≡ k .0 + 1 = k .1 in let f : run .many ≤ b = run .few in
+        sym (start ∙ scan-moves b 0 (k .2) (omega arith)
+        ∙ ap₂ (λ (x : ℕ) (l : List Node). scan (ends sameRole t) x (0 + k .0) l) (let z : b - k .0 ≡ suc (b - (k .0 + 1)) = omega arith in z) (first .1)
+        ∙ scan-solved (ends sameRole t) (b - (k .0 + 1)) (0 + k .0) (nodeOf (state .sets)) (first .0) (k .3)
+        ∙ ap (λ (n : ℕ). solved n (nodeOf (state .sets))) (let z : 0 + k .0 + 1 ≡ state .count = omega (arith, counted) in z))
+
+    pub walked-over : state .going ≡ Over → nothing (state .count) ≡ outcome sameRole t b
+    walked-over e =
+        sym (start ∙ scan-moves b 0 (leads Over e) (run .few) ∙ scan-end (ends sameRole t) (b - run .many) (0 + run .many) [] refl
+        ∙ ap nothing (let z : 0 + run .many ≡ state .count = omega (arith, counted) in z))
+
+    pub walked-spent : state .going ≡ On → budget (state .count) ≡ outcome sameRole t b
+    walked-spent e =
+        let w : run .many ≡ b = run .whole e in
+        sym (start ∙ scan-moves b 0 (leads On e) (run .few) ∙ ap (scan (ends sameRole t) (b - run .many) (0 + run .many)) (first .1)
+        ∙ scan-spent (ends sameRole t) (b - run .many) (0 + run .many) (nodeOf (state .sets)) (first .0) (omega arith)
+        ∙ ap budget (let z : 0 + run .many ≡ state .count = omega (arith, counted) in z))

@@ -1,28 +1,32 @@
--- One step of the walk, as the code takes it.
+-- The steps of the walk, as the code takes them: how many nodes of the list they go along, and what is left after these.
 --
 --   rest t sets      == the nodes from the node of `sets` on
 --   after t sets     == the nodes after those from that node down
---   SoundAt t a k    == at the node (take k a) at most v variables are chosen, the others have the empty set, and no node above is dead
---   Sound t sets     == the same of the node of `sets`
---   Kin t to         == the node of `to` is not the root, and its newest set is one of the table's
---   Next t sets step == the step leads to what comes after the node; `NextAs`, by where it goes
+--   InRangeAt t a k  == at the node (take k a) at most v variables are chosen, each with a set of the table's, and the others have the empty set
+--   LiveAboveAt t a k == no node above it is dead
+--   InRange t sets, LiveAbove t sets == the same of the node of `sets`
+--   Sound t sets     == both: what is so of every node that the walk comes to
+--   Leads t l n going to == n nodes of the list l, and then the nodes from that of `to` on, or none; none of the n ends the walk, unless it is solved: then the last does, and is `to`
+--   Goes t l n from going to == it leads there, and what is so of `from` stays so
+--   HasParent going to == a node that the walk goes on to is not the root
+--   Steps t l n from step == both, of a step; from what comes after a node, `Next`; from a node that is examined, `Looks`
 --   deadAt t sets    == the node is dead
---   Looked t sets step == the step examines the node and leads on; `LookedAs`, by where it goes
---   Advances t v sets most r == a sweep over siblings, and the step after it; `AdvancesAs`, by where it goes
+--   Advances t sets most gone == a sweep over at most so many siblings, and the step after it
+--   RunsOn t sets count share to == the node of `sets` moved on by `share` nodes, or fewer where the walk ends; count were examined before
+--   Runs t from share to == the same of a state; one that has ended stays
+--   Fresh state      == the state at the root
 --   Given s c e v m last == s is a readable table with these counts, and `last` is its last set number
---   BelowGiven t sets b == the first child of a live root
 --   outcomeOf walked == the outcome that the walk's last state says; `outcomeAs`, by its end
 use mathlib.Core.Path.{_≡_}
 use mathlib.Core.Bool.{Bool, true, false}
-use mathlib.Core.List.{List, [], _∷_}
-use Prim.Native.Nat.{ℕ, _+_, _-_, _^_, _≤_, _<_}
+use mathlib.Core.List.{List, []}
+use Prim.Native.Nat.{ℕ, _+_, _^_, _≤_, _<_}
 use lib.Dec.{T}
 use lib.ListN.{getD, take}
 use Rattle.el.specs.Description.{sameRole}
 use Rattle.el.specs.Table.{Table, atoms}
-use Rattle.el.specs.Walk.{Node, dead, ends, Outcome, solved, nothing, budget, outcome}
-use Rattle.el.specs.ScanLaws.{scan}
-use Rattle.el.specs.StepLaws.{remaining, afterwards}
+use Rattle.el.specs.Walk.{Node, dead, ends, Outcome, solved, nothing, budget}
+use Rattle.el.specs.Along.{remaining, afterwards, Moves}
 use Rattle.table.specs.Reading.{byteAt, reading, isReadable, tableOf}
 use Rattle.node.specs.declared.Sets.{Sets}
 use Rattle.node.specs.Node.{nodeOf}
@@ -30,58 +34,89 @@ use Rattle.walk.specs.declared.Going.{Going}
 use Rattle.walk.specs.declared.Going.the-variants.{Solved, On, Over}
 use Rattle.walk.specs.declared.Step.{Step}
 use Rattle.walk.specs.declared.Gone.{Gone}
+use Rattle.walk.specs.declared.State.{State}
 use Rattle.walk.specs.declared.End.{End}
 use Rattle.walk.specs.declared.End.the-variants.{Found, Nothing, Spent}
 use Rattle.walk.specs.declared.Walked.{Walked}
 
 unfoldable pub rest : Table → Sets → List Node
-rest t sets = remaining sameRole t (sets .set) (sets .chosen)
+rest t sets = remaining (dead sameRole t) (2 ^ atoms t) (t .variables) (sets .set) (sets .chosen)
 
 unfoldable pub after : Table → Sets → List Node
-after t sets = afterwards sameRole t (sets .set) (sets .chosen)
+after t sets = afterwards (dead sameRole t) (2 ^ atoms t) (t .variables) (sets .set) (sets .chosen)
 
 -- of the node (take k a)
-unfoldable pub SoundAt : Table → List ℕ → ℕ → Type 0
-SoundAt t a k =
-    (k ≤ t .variables) × ((x : ℕ) → k ≤ x → getD a x 0 ≡ 0)
-    × ((j : ℕ) → j < k → dead sameRole t (take j a) ≡ false)
+pub record InRangeAt (t : Table) (a : List ℕ) (k : ℕ) : Type 0 where
+  pub few : k ≤ t .variables
+  pub sets : (x : ℕ) → x < k → getD a x 0 < 2 ^ atoms t
+  pub clean : (x : ℕ) → k ≤ x → getD a x 0 ≡ 0
 
-abbrev pub Sound : Table → Sets → Type 0
-Sound t sets = SoundAt t (sets .set) (sets .chosen)
+unfoldable pub LiveAboveAt : Table → List ℕ → ℕ → Type 0
+LiveAboveAt t a k = (j : ℕ) → j < k → dead sameRole t (take j a) ≡ false
 
--- a node on the way is not the root, and its newest set is one of the table's
-unfoldable pub Kin : Table → Sets → Type 0
-Kin t to = (0 < to .chosen) × (getD (to .set) (to .chosen - 1) 0 < 2 ^ atoms t)
+abbrev pub InRange : Table → Sets → Type 0
+InRange t sets = InRangeAt t (sets .set) (sets .chosen)
 
-abbrev pub NextAs : Table → Sets → Going → Sets → Type 0
-NextAs t sets Solved to = ⊥
-NextAs t sets On to = (after t sets ≡ rest t to) × (Sound t sets → Sound t to) × Kin t to
-NextAs t sets Over to = after t sets ≡ []
+abbrev pub LiveAbove : Table → Sets → Type 0
+LiveAbove t sets = LiveAboveAt t (sets .set) (sets .chosen)
 
-unfoldable pub Next : Table → Sets → Step → Type 0
-Next t sets step = NextAs t sets (step .going) (step .sets)
+pub record Sound (t : Table) (sets : Sets) : Type 0 where
+  pub in-range : InRange t sets
+  pub live-above : LiveAbove t sets
+
+-- where n nodes of the list l lead to
+abbrev pub Leads : Table → List Node → ℕ → Going → Sets → Type 0
+Leads t l n Solved to = (i : ℕ) × (n ≡ i + 1) × Moves (ends sameRole t) i l (rest t to) × (ends sameRole t (nodeOf to) ≡ true)
+Leads t l n On to = Moves (ends sameRole t) n l (rest t to)
+Leads t l n Over to = Moves (ends sameRole t) n l []
+
+pub record Goes (t : Table) (l : List Node) (n : ℕ) (from : Sets) (going : Going) (to : Sets) : Type 0 where
+  pub leads : Leads t l n going to
+  pub in-range : InRange t from → InRange t to
+  pub live-above : LiveAbove t from → LiveAbove t to
+
+abbrev pub HasParent : Going → Sets → Type 0
+HasParent going to = going ≡ On → 0 < to .chosen
+
+pub record Steps (t : Table) (l : List Node) (n : ℕ) (from : Sets) (step : Step) : Type 0 where
+  pub goes : Goes t l n from (step .going) (step .sets)
+  pub parent : HasParent (step .going) (step .sets)
+
+abbrev pub Next : Table → Sets → Step → Type 0
+Next t sets step = Steps t (after t sets) 0 sets step
+
+abbrev pub Looks : Table → Sets → Step → Type 0
+Looks t sets step = Steps t (rest t sets) 1 sets step
 
 unfoldable pub deadAt : Table → Sets → Bool
 deadAt t sets = dead sameRole t (nodeOf sets)
 
-abbrev pub LookedAs : Table → Sets → Going → Sets → Type 0
-LookedAs t sets Solved to = (ends sameRole t (nodeOf sets) ≡ true) × (to ≡ sets)
-LookedAs t sets On to = (ends sameRole t (nodeOf sets) ≡ false) × (rest t sets ≡ nodeOf sets ∷ rest t to) × Sound t to × Kin t to
-LookedAs t sets Over to = (ends sameRole t (nodeOf sets) ≡ false) × (rest t sets ≡ nodeOf sets ∷ [])
+pub record Advances (t : Table) (sets : Sets) (most : ℕ) (gone : Gone) : Type 0 where
+  pub some : 0 < gone .passed
+  pub few : gone .passed ≤ most
+  pub goes : Goes t (rest t sets) (gone .passed) sets (gone .going) (gone .sets)
+  pub parent : HasParent (gone .going) (gone .sets)
 
-unfoldable pub Looked : Table → Sets → Step → Type 0
-Looked t sets step = LookedAs t sets (step .going) (step .sets)
+pub record RunsOn (t : Table) (sets : Sets) (count share : ℕ) (to : State) : Type 0 where
+  pub many : ℕ
+  pub few : many ≤ share
+  pub whole : to .going ≡ On → many ≡ share
+  pub counted : to .count ≡ count + many
+  pub goes : Goes t (rest t sets) many sets (to .going) (to .sets)
 
--- what a sweep and the step after it lead to: `n` nodes were examined before, and b is the budget
-abbrev pub AdvancesAs : Table → ℕ → ℕ → ℕ → Going → Sets → Type 0
-AdvancesAs t v b n Solved to = (outcome sameRole t b ≡ solved n (nodeOf to)) × (to .chosen ≤ v)
-AdvancesAs t v b n On to = Sound t to × Kin t to × (outcome sameRole t b ≡ scan (ends sameRole t) (b - n) n (rest t to))
-AdvancesAs t v b n Over to = outcome sameRole t b ≡ nothing n
+abbrev pub RunsAs : Table → Going → State → ℕ → State → Type 0
+RunsAs t Solved from share to = to ≡ from
+RunsAs t On from share to = RunsOn t (from .sets) (from .count) share to
+RunsAs t Over from share to = to ≡ from
 
-unfoldable pub Advances : Table → ℕ → Sets → ℕ → Gone → Type 0
-Advances t v sets most r =
-    (0 < r .passed) × (r .passed ≤ most)
-    × ((b n : ℕ) → n + most ≡ b → outcome sameRole t b ≡ scan (ends sameRole t) (b - n) n (rest t sets) → AdvancesAs t v b (n + r .passed) (r .going) (r .sets))
+unfoldable pub Runs : Table → State → ℕ → State → Type 0
+Runs t from share to = RunsAs t (from .going) from share to
+
+pub record Fresh (state : State) : Type 0 where
+  pub going : state .going ≡ On
+  pub none-chosen : state .sets .chosen ≡ 0
+  pub empty : (x : ℕ) → getD (state .sets .set) x 0 ≡ 0
+  pub none-counted : state .count ≡ 0
 
 pub record Given (s : List ℕ) (c e v m last : ℕ) : Type 0 where
   pub readable : T (isReadable (reading s))
@@ -91,13 +126,6 @@ pub record Given (s : List ℕ) (c e v m last : ℕ) : Type 0 where
   pub lines : m ≡ byteAt s 9
   pub width : 2 ^ atoms (tableOf s) ≡ last + 1
   pub narrow : last < 2 ^ 24
-
--- the first child of the root, which is live and counted
-pub record BelowGiven (t : Table) (sets : Sets) (b : ℕ) : Type 0 where
-  pub some : 0 < b
-  pub sound : Sound t sets
-  pub kin : Kin t sets
-  pub left : outcome sameRole t b ≡ scan (ends sameRole t) (b - 1) 1 (rest t sets)
 
 abbrev pub outcomeAs : End → ℕ → Node → Outcome
 outcomeAs Found n s = solved n s

@@ -1,5 +1,7 @@
-// The walk: one step from node to node, and the loop that counts them.
+// The walk goes along the list of nodes. One node is looked at by itself (`look`); siblings are swept over together, since they share a
+// level (`advance`); a state is moved on by a share of nodes (`run`); and the walk is the root's state moved on by the budget (`walk`).
 ghost use mathlib.Core.Path.{_≡_};
+ghost use mathlib.Core.Bool.{false};
 ghost use Prim.Native.Nat.{_+_, _≤_, _<_, _^_};
 ghost use lib.Dec.{T};
 ghost use lib.ListN.{set};
@@ -7,10 +9,12 @@ ghost use Rattle.el.specs.Description.{sameRole};
 ghost use Rattle.el.specs.Table.{Table, atoms};
 ghost use Rattle.el.specs.Walk.{outcome};
 ghost use Rattle.table.specs.Reading.{byteAt, reading, isReadable, tableOf};
+ghost use Rattle.order.specs.Given.{RowsGiven};
 ghost use Rattle.node.specs.Node.{Prepares};
 ghost use Rattle.level.specs.Level.{siblingOf, SweepGiven};
-ghost use Rattle.walk.specs.Step.{Sound, deadAt, Next, Looked, Given, Advances, BelowGiven, outcomeOf};
+ghost use Rattle.walk.specs.Step.{InRange, Sound, deadAt, Next, Looks, Advances, Runs, RunsOn, Given, Fresh, outcomeOf};
 use level::Level;
+use level::Stop;
 use node::Sets;
 
 // Where a step leads: to the end of the walk, on to a node, or nowhere because no node is left.
@@ -23,6 +27,13 @@ pub enum Going {
 pub struct Step {
     pub going: Going,
     pub sets: Sets,
+}
+
+// A state of the walk: the node to be examined next, or the one that ended the walk, and how many nodes were examined.
+pub struct State {
+    pub going: Going,
+    pub sets: Sets,
+    pub count: u32,
 }
 
 // How a walk ended: at an assignment, with no node left, or with the budget spent.
@@ -74,14 +85,11 @@ fn next_node(sets: Sets, last: u32) -> Step
     }
 }
 
-// One node examined: dead, it is left; live and full, it ends the walk; live, it is followed by its first child.
-fn look(dead: bool, v: usize, sets: Sets, last: u32) -> Step
-    requires { ⌜ (v ≤ 12) × (sets .chosen ≤ v) × (last < 2 ^ 24) ⌝ }
-    ensures { λ r. ⌜ ((t : Table) → v ≡ t .variables → 2 ^ atoms t ≡ last + 1 → Sound t sets → dead ≡ deadAt t sets → Looked t sets r) ⌝ }
+// A live node: full, it ends the walk; otherwise it is followed by its first child.
+fn enter(v: usize, sets: Sets) -> Step
+    requires { ⌜ (v ≤ 12) × (sets .chosen ≤ v) ⌝ }
+    ensures { λ r. ⌜ ((t : Table) → v ≡ t .variables → deadAt t sets ≡ false → Looks t sets r) ⌝ }
 {
-    if dead {
-        return next_node(sets, last);
-    }
     let k = sets.chosen;
     if k == v {
         return Step {
@@ -93,6 +101,17 @@ fn look(dead: bool, v: usize, sets: Sets, last: u32) -> Step
         going: Going::On,
         sets: child(sets),
     }
+}
+
+// One node examined by itself, whatever lies above it.
+fn look(table: &[u8], c: usize, e: usize, v: usize, m: usize, sets: Sets, last: u32) -> Step
+    requires { ⌜ Given (now table) c e v m last × InRange (tableOf (now table)) sets ⌝ }
+    ensures { λ r. ⌜ Looks (tableOf (now (table .entry))) sets r ⌝ }
+{
+    if node::is_dead(table, c, e, v, m, sets) {
+        return next_node(sets, last);
+    }
+    enter(v, sets)
 }
 
 // Where a sweep and the step after it lead, and how many nodes were examined.
@@ -116,6 +135,8 @@ fn moved(sets: Sets, x: u32) -> Sets
 // Sweeps over the siblings from the node on, at most `most` of them, and steps on from where that ends.
 fn advance(
     table: &[u8],
+    over: &[u32],
+    inner: &[u8],
     start: &[usize],
     level: Level,
     c: usize,
@@ -126,17 +147,29 @@ fn advance(
     last: u32,
     most: u32,
 ) -> Gone
-    requires { ⌜ Given (now table) c e v m last × SweepGiven (now table) (now start) level c e v m sets last ⌝ }
-    requires { ⌜ Sound (tableOf (now table)) sets × (0 < most) ⌝ }
-    ensures { λ r. ⌜ Advances (tableOf (now (table .entry))) v sets most r ⌝ }
+    requires { ⌜ Given (now table) c e v m last × SweepGiven (now table) (now start) level c e v m sets last × (0 < most) × RowsGiven (now table) (now over) (now inner) ⌝ }
+    ensures { λ r. ⌜ Advances (tableOf (now (table .entry))) sets most r ⌝ }
 {
-    let swept = level::sweep(table, start, level, c, e, v, m, sets, last, most);
+    let swept = level::sweep(
+        table,
+        over,
+        inner,
+        start,
+        level,
+        c,
+        e,
+        v,
+        m,
+        sets,
+        last,
+        most,
+    );
     let here = moved(sets, swept.at);
     let passed = swept.passed;
     let end = swept.end;
     match end {
-        level::End::Live => {
-            let step = look(false, v, here, last);
+        Stop::Live => {
+            let step = enter(v, here);
             let next = step.sets;
             let going = step.going;
             Gone {
@@ -145,8 +178,8 @@ fn advance(
                 passed,
             }
         }
-        level::End::Over => {
-            let step = look(true, v, here, last);
+        Stop::Over => {
+            let step = next_node(here, last);
             let next = step.sets;
             let going = step.going;
             Gone {
@@ -155,7 +188,7 @@ fn advance(
                 passed,
             }
         }
-        level::End::Spent => Gone {
+        Stop::Spent => Gone {
             going: Going::On,
             sets: here,
             passed,
@@ -163,9 +196,11 @@ fn advance(
     }
 }
 
-// The walk below a live root of a table with open names, the root being counted.
-fn walk_below(
+// A node below a live one, moved on by at most `share` nodes.
+fn run_below(
     table: &[u8],
+    over: &[u32],
+    inner: &[u8],
     fill: &[u32],
     mask: &[u32],
     start: &[usize],
@@ -175,34 +210,49 @@ fn walk_below(
     m: usize,
     first: Sets,
     last: u32,
-    budget: u32,
-) -> Walked
-    requires { ⌜ Given (now table) c e v m last × Prepares (now table) (now fill) (now mask) (now start) ⌝ }
-    requires { ⌜ BelowGiven (tableOf (now table)) first budget ⌝ }
-    ensures { λ r. ⌜ (outcomeOf r ≡ outcome sameRole (tableOf (now (table .entry))) budget) × (r .sets .chosen ≤ v) ⌝ }
+    counted: u32,
+    share: u32,
+) -> State
+    requires { ⌜ Given (now table) c e v m last × Prepares (now table) (now fill) (now mask) (now start) × RowsGiven (now table) (now over) (now inner) ⌝ }
+    requires { ⌜ Sound (tableOf (now table)) first × (0 < first .chosen) × (counted + share < 2 ^ 32) ⌝ }
+    ensures { λ r. ⌜ RunsOn (tableOf (now (table .entry))) first counted share r ⌝ }
 {
+    let end = counted + share;
     let mut sets = first;
     let mut level = level::level_of(table, fill, mask, start, c, e, v, m, first);
-    let mut count: u32 = 1;
-    while count < budget {
-        let most = budget - count;
-        let step = advance(table, start, level, c, e, v, m, sets, last, most);
+    let mut count = counted;
+    while count < end {
+        let most = end - count;
+        let step = advance(
+            table,
+            over,
+            inner,
+            start,
+            level,
+            c,
+            e,
+            v,
+            m,
+            sets,
+            last,
+            most,
+        );
         count += step.passed;
         let next = step.sets;
         let going = step.going;
         match going {
             Going::Solved => {
-                return Walked {
-                    end: End::Found,
-                    count,
+                return State {
+                    going: Going::Solved,
                     sets: next,
+                    count,
                 };
             }
             Going::Over => {
-                return Walked {
-                    end: End::Nothing,
+                return State {
+                    going: Going::Over,
+                    sets: next,
                     count,
-                    sets,
                 };
             }
             Going::On => {
@@ -211,10 +261,116 @@ fn walk_below(
             }
         }
     }
-    Walked {
-        end: End::Spent,
-        count,
+    State {
+        going: Going::On,
         sets,
+        count,
+    }
+}
+
+// A node moved on by at most `share` nodes: it is looked at by itself, and the walk goes on below a live one.
+fn run_on(
+    table: &[u8],
+    c: usize,
+    e: usize,
+    v: usize,
+    m: usize,
+    sets: Sets,
+    last: u32,
+    count: u32,
+    share: u32,
+) -> State
+    requires { ⌜ Given (now table) c e v m last × Sound (tableOf (now table)) sets × (count + share < 2 ^ 32) ⌝ }
+    ensures { λ r. ⌜ RunsOn (tableOf (now (table .entry))) sets count share r ⌝ }
+{
+    if share == 0 {
+        return State {
+            going: Going::On,
+            sets,
+            count,
+        };
+    }
+    let step = look(table, c, e, v, m, sets, last);
+    let next = step.sets;
+    let going = step.going;
+    let counted = count + 1;
+    match going {
+        Going::Solved => State {
+            going: Going::Solved,
+            sets: next,
+            count: counted,
+        },
+        Going::Over => State {
+            going: Going::Over,
+            sets: next,
+            count: counted,
+        },
+        Going::On => {
+            let prepared = node::prepare(table, e, m);
+            let over = prepared.over;
+            let inner = prepared.inner;
+            let fill = prepared.fill;
+            let mask = prepared.mask;
+            let start = prepared.start;
+            let left = share - 1;
+            run_below(
+                table,
+                &over,
+                &inner,
+                &fill,
+                &mask,
+                &start,
+                c,
+                e,
+                v,
+                m,
+                next,
+                last,
+                counted,
+                left,
+            )
+        }
+    }
+}
+
+// A state moved on by at most `share` nodes, by fewer only where the walk ends. One that has ended stays.
+pub fn run(
+    table: &[u8],
+    c: usize,
+    e: usize,
+    v: usize,
+    m: usize,
+    last: u32,
+    state: State,
+    share: u32,
+) -> State
+    requires { ⌜ Given (now table) c e v m last × Sound (tableOf (now table)) (state .sets) × (state .count + share < 2 ^ 32) ⌝ }
+    ensures { λ r. ⌜ Runs (tableOf (now (table .entry))) state share r ⌝ }
+{
+    let going = state.going;
+    match going {
+        Going::Solved => state,
+        Going::Over => state,
+        Going::On => {
+            let sets = state.sets;
+            let counted = state.count;
+            run_on(table, c, e, v, m, sets, last, counted, share)
+        }
+    }
+}
+
+// The state at the root, before any node is examined.
+pub fn fresh() -> State
+    ensures { λ r. ⌜ Fresh r ⌝ }
+{
+    let sets = Sets {
+        set: [0u32; 12],
+        chosen: 0,
+    };
+    State {
+        going: Going::On,
+        sets,
+        count: 0,
     }
 }
 
@@ -231,38 +387,26 @@ fn walk_from_root(
     requires { ⌜ Given (now table) c e v m last ⌝ }
     ensures { λ r. ⌜ (outcomeOf r ≡ outcome sameRole (tableOf (now (table .entry))) budget) × (r .sets .chosen ≤ v) ⌝ }
 {
-    let root = Sets {
-        set: [0u32; 12],
-        chosen: 0,
-    };
-    if budget == 0 {
-        return Walked {
-            end: End::Spent,
-            count: 0,
-            sets: root,
-        };
-    }
-    let step = look(node::is_dead(table, c, e, v, m, root), v, root, last);
-    let next = step.sets;
-    let going = step.going;
+    let state = run(table, c, e, v, m, last, fresh(), budget);
+    let count = state.count;
+    let sets = state.sets;
+    let going = state.going;
     match going {
         Going::Solved => Walked {
             end: End::Found,
-            count: 1,
-            sets: next,
+            count,
+            sets,
         },
         Going::Over => Walked {
             end: End::Nothing,
-            count: 1,
-            sets: root,
+            count,
+            sets,
         },
-        Going::On => {
-            let prepared = node::prepare(table, e, m);
-            let fill = prepared.fill;
-            let mask = prepared.mask;
-            let start = prepared.start;
-            walk_below(table, &fill, &mask, &start, c, e, v, m, next, last, budget)
-        }
+        Going::On => Walked {
+            end: End::Spent,
+            count,
+            sets,
+        },
     }
 }
 

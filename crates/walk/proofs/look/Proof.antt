@@ -1,28 +1,28 @@
--- `walk::look` meets its contract: one law for each of its three ends.
-use mathlib.Core.Path.{_≡_, sym, _∙_}
+-- `walk::look` meets its contract: the test says whether the node is dead.
+use mathlib.Core.Path.{sym, _∙_}
 use native.Mathlib.Omega.{arith}
-use lib.ListN.{length}
-use Rattle.walk.specs.Step.{Next, Looked, deadAt}
-use Rattle.walk.proofs.Laws.{looked-dead, looked-solved, looked-down}
+use Rattle.walk.specs.Step.{deadAt}
+use Rattle.walk.proofs.Laws.{given-variables, given-chosen, given-node, looks-dead}
 use borrow.Author.Needs.{needs}
 use Rattle.walk.proofs.look.Statement.{statement}
 use Rattle.walk.proofs.look.Tie as tie
 
+is-dead-requires : tie.Need-is-dead-requires
+is-dead-requires c κs = (let p = c .before .pre in given-node (p .0) _ (p .1))
+
+next-node-requires : tie.Need-next-node-requires
+next-node-requires c κs = (let p = c .before .before .before .pre in let q = given-variables (p .0) in let h = given-chosen (p .0) _ (p .1) in (omega arith, p .0 .narrow))
+
 returns : tie.Need-returns
-unfolding Looked Next deadAt
-returns c =
-    λ t hv hw s d. (let a = c .before .before .args in let p = c .before .before .pre in let n : length (a .sets .set) ≡ 12 = search needs in
-    looked-dead t (a .sets) (omega arith) (c .next-node .result .going) (c .next-node .result .sets) (sym d ∙ c .before .if1 .taken) s (c .next-node .ensures t hw))
+unfolding deadAt
+returns c = (let p = c .before .before .before .before .pre in looks-dead _ _ _ (sym (c .before .before .is-dead .ensures) ∙ c .before .if1 .taken) (c .next-node .ensures _ (p .0 .width)))
+
+enter-requires : tie.Need-enter-requires
+enter-requires c κs = (let p = c .before .before .before .pre in let q = given-variables (p .0) in (q .1, given-chosen (p .0) _ (p .1)))
 
 returns-2 : tie.Need-returns-2
-unfolding Looked deadAt
-returns-2 c = λ t hv hw s d. (let a = c .before .before .args in let p = c .before .before .pre in let n : length (a .sets .set) ≡ 12 = search needs in looked-solved t (a .sets) (omega arith) (sym d ∙ c .before .if1 .left) (omega arith))
-
-returns-3 : tie.Need-returns-3
-unfolding Looked deadAt
-returns-3 c =
-    λ t hv hw s d. (let a = c .before .before .before .args in let p = c .before .before .before .pre in let n : length (a .sets .set) ≡ 12 = search needs in
-    looked-down t (a .sets) (omega arith) _ (omega arith) (omega arith) (omega arith) (sym d ∙ c .before .before .if1 .left) s (c .child .ensures .1) (c .child .ensures .0))
+unfolding deadAt
+returns-2 c = (let p = c .before .before .before .before .pre in let q = given-variables (p .0) in c .enter .ensures _ (sym (q .0)) (sym (c .before .before .is-dead .ensures) ∙ c .before .if1 .left))
 
 pub look-spec : {M : Type 1} → statement M
-look-spec = tie.close (tie.spec (λ c κs. search needs) returns returns-2 (λ c κs. search needs) returns-3)
+look-spec = tie.close (tie.spec is-dead-requires next-node-requires returns enter-requires returns-2)

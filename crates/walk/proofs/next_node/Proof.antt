@@ -5,35 +5,32 @@ use Prim.Native.Nat.{_+_, _^_, _≤_}
 use native.Mathlib.Omega.{arith}
 use lib.ListN.{length}
 use Rattle.el.specs.Table.{Table, atoms}
-use Rattle.walk.specs.Step.{Next, rest, after}
-use Rattle.walk.proofs.Laws.{Goes, goes-start, goes-up, next-sibling, next-none}
+use Rattle.walk.proofs.Laws.{Climbs, climbs-start, climbs-up, next-sibling, next-none}
 use Rattle.walk.proofs.next_node.Statement.{statement}
 use Rattle.walk.proofs.next_node.Tie as tie
 
 abbrev Inv-loop : tie.InvT-loop
 Inv-loop last set₀ k₀ set k =
-    (length set ≡ 12) × (k ≤ k₀) × (k₀ ≤ 12) × ((t : Table) → 2 ^ atoms t ≡ last + 1 → Goes t set₀ k₀ set k)
+    (length set ≡ 12) × (k ≤ k₀) × (k₀ ≤ 12) × ((t : Table) → 2 ^ atoms t ≡ last + 1 → Climbs t set₀ k₀ set k)
 
 abbrev μ-loop : tie.MeasureT-loop
 μ-loop last set₀ k₀ set k = k
 
 loop-holds : tie.Need-loop-holds Inv-loop μ-loop
-loop-holds c = (search needs, omega arith, omega arith, λ t e. goes-start t _ _)
+loop-holds c = (search needs, omega arith, omega arith, λ t e. climbs-start t _ _)
 
 returns : tie.Need-returns Inv-loop μ-loop
-unfolding Next rest after
-returns c = λ t e. next-sibling t _ e _ _ (c .before .loop-test .taken) (omega arith) _ _ (c .if1 .taken) (c .before .before .loop .inv .3 t e)
+returns c = λ t e. next-sibling t _ _ (c .before .loop-test .taken) (omega arith) _ e _ _ (c .before .before .loop .inv .3 t e) (c .if1 .taken)
 
 loop-again : tie.Need-loop-again Inv-loop μ-loop
 loop-again c = (
   search needs,
   omega arith,
   omega arith,
-  λ t e. goes-up t _ e _ _ (c .before .loop-test .taken) (omega arith) _ _ (c .if1 .left) (c .before .before .loop .inv .3 t e),
+  λ t e. climbs-up t _ _ (c .before .loop-test .taken) (omega arith) _ e _ _ (c .before .before .loop .inv .3 t e) (c .if1 .left),
 )
 
 returns-2 : tie.Need-returns-2 Inv-loop μ-loop
-unfolding Next rest after
 returns-2 c = λ t e. next-none t _ _ _ _ (omega arith) (c .before .loop .inv .3 t e)
 
 pub next-node-spec : {M : Type 1} → statement M

@@ -1,0 +1,47 @@
+-- `walk::run_on` meets its contract: a law for each place that the first node leads to.
+use native.Mathlib.Omega.{arith}
+use Prim.Native.Nat.{_<_}
+use Rattle.walk.specs.declared.Going.the-variants.{Solved, Over}
+use Rattle.walk.proofs.Laws.{runs-none, runs-one, runs-more, looks-sound}
+use borrow.Author.Needs.{needs}
+use Rattle.walk.proofs.run_on.Statement.{statement}
+use Rattle.walk.proofs.run_on.Tie as tie
+
+returns : tie.Need-returns
+returns c = runs-none _ _ _ _ (c .if1 .taken)
+
+run-below-requires : tie.Need-run-below-requires
+run-below-requires c κs =
+    (let p = c .before .before .before .before .before .before .before .before .before .before .before .before .before .before .before .before .before .pre in let look = c .before .before .before .before .before .before .before .before .before .before .before .before .before .before .look in let z = c .before .before .before .before .before .before .before .before .before .before .before .before .before .before .before .if1 .left in let e = c .before .before .before .before .before .before .before .before .before .before .before .enum-told3 .given .1 in
+    ((p .0, c .before .before .before .before .before .before .before .before .before .before .prepare .ensures .0, c .before .before .before .before .before .before .before .before .before .before .prepare .ensures .1), (looks-sound (look .ensures) 0 1 (omega arith) e (p .1), look .ensures .parent e, omega arith)))
+
+returns-2 : tie.Need-returns-2
+returns-2 c = (let z = c .before .before .before .before .if1 .left in runs-one (c .before .before .before .look .ensures) _ _ (omega arith) Solved (c .enum-told .given .1) tt)
+
+returns-3 : tie.Need-returns-3
+returns-3 c = (let z = c .before .before .before .before .if1 .left in runs-one (c .before .before .before .look .ensures) _ _ (omega arith) Over (c .enum-told2 .given .1) tt)
+
+returns-4 : tie.Need-returns-4
+returns-4 c = (let z = c .before .before .before .before .before .before .before .before .before .before .before .before .before .before .before .before .if1 .left in runs-more (c .before .before .before .before .before .before .before .before .before .before .before .before .before .before .before .look .ensures) _ _ (omega arith) (c .before .before .before .before .before .before .before .before .before .before .before .before .enum-told3 .given .1) (c .run-below .ensures))
+
+pub run-on-spec : {M : Type 1} → statement M
+run-on-spec =
+    tie.close
+    (tie.spec
+    returns
+    (λ c κs. search needs)
+    (λ c. search needs)
+    (λ c. search needs)
+    (λ c. search needs)
+    (λ c. search needs)
+    (λ c κs. search needs)
+    (λ c. search needs)
+    (λ c. search needs)
+    (λ c. search needs)
+    (λ c. search needs)
+    (λ c. search needs)
+    (λ c. search needs)
+    run-below-requires
+    returns-2
+    returns-3
+    returns-4)

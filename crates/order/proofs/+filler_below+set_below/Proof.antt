@@ -122,7 +122,7 @@ pub +filler-below+set-below-spec : {M : Type 1} → statement M
     (λ c. omega arith)
     (λ c κs. let own = row-filler _ _ _ _ (c .before .before .before .before .before .before .before .before .before .before .before .before .before .pre .1 .0) _ _ (c .before .before .before .before .before .before .before .before .before .before .before .before .before .pre .1 .2) _ (c .before .before .before .before .loop-test .taken) in
     let asked = row-filler _ _ _ _ (c .before .before .before .before .before .before .before .before .before .before .before .before .before .pre .1 .0) _ _ (c .before .before .before .before .before .before .before .before .before .before .before .before .before .pre .1 .2) _ (let h : c .before .before .before .before .before .before .before .before .before .before .before .before .before .args .j - c .before .before .before .before .before .before .before .before .before .before .before .before .before .args .c < c .before .before .before .before .before .before .before .before .before .before .before .before .before .args .e = omega arith in h) in
-    (omega arith, (c .before .before .before .before .before .before .before .before .before .before .before .before .before .pre .1 .0, own, asked, c .before .before .before .before .before .before .before .before .before .before .before .before .before .pre .1 .2)))
+    (omega arith, (c .before .before .before .before .before .before .before .before .before .before .before .before .before .pre .1 .0, search (own, asked), search (own, asked), c .before .before .before .before .before .before .before .before .before .before .before .before .before .pre .1 .2)))
     (λ c. sym (set-rows _ _ _ _ (c .before .before .before .before .before .before .before .before .before .before .before .before .before .before .before .pre .1 .0) _ _ _ _ _ (c .before .before .before .before .before .before .before .before .before .before .before .before .before .before .before .pre .1 .2) (c .before .before .before .before .before .before .before .before .before .before .if1 .left) (c .before .before .before .before .before .before .before .before .before .before .before .before .before .before .before .pre .1 .1) ∙ anyBelow-true-at _ _ _ (c .before .before .before .before .before .before .loop-test .taken) (row-true _ _ _ _ _ _ _ _ _ (bit-on _ _ (c .before .before .before .before .if3 .taken)) (bit-on _ _ (c .before .before .before .if4 .taken)) (sym (c .before .filler-below .ensures) ∙ c .if5 .taken))))
     (λ c. omega arith)
     (λ c. omega arith)

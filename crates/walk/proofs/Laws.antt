@@ -20,10 +20,10 @@
 --   zeros, fresh-sound == the root
 --   walked-few, walked-found, walked-over, walked-spent == the outcome, where a run from the root with the budget as its share ended
 use mathlib.Core.Path.{_≡_, refl, sym, ap, ap₂, subst, _∙_}
-use mathlib.Core.Bool.{Bool, true, false}
+use mathlib.Core.Bool.{true, false}
 use mathlib.Core.List.{List, [], _∷_}
 use Prim.Native.Nat.{ℕ, zero, suc, _+_, _-_, _^_, _≤_, _<_}
-use native.Mathlib.Nat.{sub-zero, add-zero}
+use native.Mathlib.Nat.{add-zero}
 use native.Mathlib.Numerals.{add-one}
 use native.Mathlib.Omega.{arith}
 use native.Mathlib.Decide.{ℕ-discrete}
@@ -35,7 +35,7 @@ use lib.Dec.{T}
 use lib.Pow.{pow-mono, pow-pos}
 use borrow.Author.Tests.{eq-eqb, ne-eqb}
 use Rattle.el.specs.Walk.{Node, dead, full, ends, nodes, solved, nothing, budget, outcome}
-use Rattle.el.specs.Along.{remaining, afterwards, Moves, scan}
+use Rattle.el.specs.Along.{remaining, Moves, scan}
 use Rattle.el.specs.ScanLaws.{scan-end, scan-spent, scan-solved, scan-moves, scan-means, moves-none, moves-one, moves-on}
 use Rattle.el.specs.StepLaws.{remaining-start, remaining-gone, remaining-down, remaining-first, afterwards-hit, afterwards-miss, afterwards-end}
 use Rattle.node.specs.declared.Sets.{Sets}
@@ -45,8 +45,8 @@ use Rattle.node.specs.Node.{nodeOf, Clean, NodeGiven, Prepares}
 use Rattle.node.specs.SquareLaws.{clean-next, clean-up, length-node}
 use Rattle.level.specs.declared.Level.{Level}
 use Rattle.level.specs.declared.Swept.{Swept}
-use Rattle.level.specs.declared.Stop.{Stop}
-use Rattle.level.specs.declared.Stop.the-variants as stop
+use Rattle.level.specs.declared.Halt.{Halt}
+use Rattle.level.specs.declared.Halt.the-variants as halt
 use Rattle.level.specs.Level.{Levels, setsOf, siblingOf, ownOf, deadSibling, Passes, SweepsAs, Sweeps, SweepGiven}
 use Rattle.walk.specs.declared.Going.{Going}
 use Rattle.walk.specs.declared.Going.the-variants.{Solved, On, Over}
@@ -69,7 +69,7 @@ ended-off g h e = subst HasEnded e h
 leads-on : (t : Table) (i n : ℕ) (l m : List Node) (g : Going) (to : Sets) → Moves (ends sameRole t) i l m → Leads t m n g to → Leads t l (i + n) g to
 leads-on t i n l m Solved to a k = let e : n ≡ k .0 + 1 = k .1 in (i + k .0, omega arith, moves-on a (k .2), k .3)
 leads-on t i n l m On to a k = moves-on a k
-leads-on t i n l m Over to a k = moves-on a k
+leads-on t i n l m Over to a k = (moves-on a (k .0), k .1)
 
 pub keeps-same : {t : Table} {a : List ℕ} {k : ℕ} → KeepsAt t a k a k
 keeps-same = record { in-range = λ r. r; live-above = λ f. f }
@@ -151,7 +151,7 @@ module _ (t : Table) (a₀ : List ℕ) (k₀ : ℕ) (a : List ℕ) (k : ℕ) (cl
   next-none e =
       record {
         goes = record {
-          leads = moves-none (climbs .same ∙ (unfold after in afterwards-end (dead sameRole t) (2 ^ atoms t) (t .variables) a k e));
+          leads = (moves-none (climbs .same ∙ (unfold after in afterwards-end (dead sameRole t) (2 ^ atoms t) (t .variables) a k e)), refl);
           keeps = subst (KeepsAt t a₀ k₀ a) e (climbs .keeps);
         };
         parent = λ o. absurd (ended-off Over tt o);
@@ -343,8 +343,8 @@ module _ (t : Table) (last : ℕ) (width : 2 ^ atoms t ≡ last + 1) (sets : Set
         (swept-moves i (let w : swept .at ≤ last = sweeps .within in omega arith) p)
 
     -- what the sweep says, by its end
-    as-ended : (x : Stop) → swept .end ≡ x → SweepsAs t sets last most x (swept .passed) (swept .at)
-    as-ended x e = subst (λ (z : Stop). SweepsAs t sets last most z (swept .passed) (swept .at)) e (sweeps .ends)
+    as-ended : (x : Halt) → swept .end ≡ x → SweepsAs t sets last most x (swept .passed) (swept .at)
+    as-ended x e = subst (λ (z : Halt). SweepsAs t sets last most z (swept .passed) (swept .at)) e (sweeps .ends)
 
     module _ (step : Step) where
       -- i siblings are dead, and the one at hand is examined
@@ -357,16 +357,16 @@ module _ (t : Table) (last : ℕ) (width : 2 ^ atoms t ≡ last + 1) (sets : Set
             parent = looks .parent;
           }
 
-      pub advanced-live : swept .end ≡ stop.Live → (deadAt t here ≡ false → Looks t here step) → Advances t sets most (record { going = step .going; sets = step .sets; passed = swept .passed })
-      advanced-live e looks = let w = as-ended stop.Live e in advanced (w .0) (w .1) (w .2) (w .3) (looks (sym here-dead ∙ w .4))
+      pub advanced-live : swept .end ≡ halt.Live → (deadAt t here ≡ false → Looks t here step) → Advances t sets most (record { going = step .going; sets = step .sets; passed = swept .passed })
+      advanced-live e looks = let w = as-ended halt.Live e in advanced (w .0) (w .1) (w .2) (w .3) (looks (sym here-dead ∙ w .4))
 
-      pub advanced-over : swept .end ≡ stop.Over → Next t here step → Advances t sets most (record { going = step .going; sets = step .sets; passed = swept .passed })
-      advanced-over e next = let w = as-ended stop.Over e in advanced (w .0) (w .1) (w .2) (w .3) (looks-dead t here step (sym here-dead ∙ w .4) next)
+      pub advanced-over : swept .end ≡ halt.Over → Next t here step → Advances t sets most (record { going = step .going; sets = step .sets; passed = swept .passed })
+      advanced-over e next = let w = as-ended halt.Over e in advanced (w .0) (w .1) (w .2) (w .3) (looks-dead t here step (sym here-dead ∙ w .4) next)
 
     -- all that were allowed are dead
-    pub advanced-spent : swept .end ≡ stop.Spent → 0 < most → Advances t sets most (record { going = On; sets = here; passed = swept .passed })
+    pub advanced-spent : swept .end ≡ halt.Spent → 0 < most → Advances t sets most (record { going = On; sets = here; passed = swept .passed })
     advanced-spent e h =
-        let w = as-ended stop.Spent e in
+        let w = as-ended halt.Spent e in
         let q : swept .passed ≡ most = w .0 in
         record {
           some = omega arith;
@@ -501,7 +501,7 @@ module _ (t : Table) (root : State) (fresh : Fresh root) where
 
     pub walked-over : state .going ≡ Over → nothing (state .count) ≡ outcome sameRole t b
     walked-over e =
-        sym (start ∙ scan-moves b 0 (leads Over e) (run .few) ∙ scan-end (ends sameRole t) (b - run .many) (0 + run .many) [] refl
+        sym (start ∙ scan-moves b 0 (leads Over e .0) (run .few) ∙ scan-end (ends sameRole t) (b - run .many) (0 + run .many) [] refl
         ∙ ap nothing (let z : 0 + run .many ≡ state .count = omega (arith, counted) in z))
 
     pub walked-spent : state .going ≡ On → budget (state .count) ≡ outcome sameRole t b

@@ -6,7 +6,8 @@
 --   LiveAboveAt t a k == no node above it is dead
 --   InRange t sets, LiveAbove t sets == the same of the node of `sets`
 --   Sound t sets     == both: what is so of every node that the walk comes to
---   Leads t l n going to == n nodes of the list l, and then the nodes from that of `to` on, or none; none of the n ends the walk, unless it is solved: then the last does, and is `to`
+--   Leads t l n going to == l is n nodes, none of which ends the walk, and then the nodes from that of `to` on. Where it is solved, the last of the n is
+--                       that of `to`, and ends the walk; where it is over, no node is left, and `to` is the root
 --   Keeps t from to  == what is so of the one node is so of the other; `KeepsAt`, of two lists
 --   Goes t l n from going to == it leads there, and what is so of `from` stays so
 --   HasParent going to == a node that the walk goes on to is not the root
@@ -77,7 +78,7 @@ Keeps t from to = KeepsAt t (from .set) (from .chosen) (to .set) (to .chosen)
 abbrev pub Leads : Table → List Node → ℕ → Going → Sets → Type 0
 Leads t l n Solved to = (i : ℕ) × (n ≡ i + 1) × Moves (ends sameRole t) i l (rest t to) × (ends sameRole t (nodeOf to) ≡ true)
 Leads t l n On to = Moves (ends sameRole t) n l (rest t to)
-Leads t l n Over to = Moves (ends sameRole t) n l []
+Leads t l n Over to = Moves (ends sameRole t) n l [] × (to .chosen ≡ 0)
 
 pub record Goes (t : Table) (l : List Node) (n : ℕ) (from : Sets) (going : Going) (to : Sets) : Type 0 where
   pub leads : Leads t l n going to

@@ -24,7 +24,7 @@ use Rattle.el.specs.Assignment.{depends, Reaches, once, then, reaches, a
 use Rattle.el.specs.Walk.{Node, lineVariables, settled, ready, fails, dead}
 use Rattle.el.specs.TestLaws.{is-false, true-is, false-not, same-test, or-left, or-right, or-cases, and-make, and-left, and-right, anyBelow-hit, anyBelow-found, allBelow-all, allBelow-at, anyOf-found, anyOf-same, everyOf-at, everyOf-all}
 use Rattle.el.specs.ReachLaws.{reaches-join, reaches-means, reaches-declared, depends-declared, acyclic-means, depends-same}
-use Rattle.el.specs.NodeLaws.{set-stays, reaches-stays, depends-unchosen, settled-chosen, settled-reached, settled-make, noLine}
+use Rattle.el.specs.NodeLaws.{set-stays, append-adds, reaches-stays, depends-unchosen, settled-chosen, settled-reached, settled-make, noLine}
 use Rattle.el.specs.FreshLaws.{childOf, child-length, touches, dead-fresh}
 
 unfoldable pub newly : Table → Node → ℕ → ℕ → Bool
@@ -97,7 +97,7 @@ module _ (t : Table) (known : T (declared t)) (p : Node) (x : ℕ) where
       go (inr e) (inr q) = inr (q .0, inl e)
 
   later : {z w : ℕ} → Parent z w → Child z w
-  later r = reaches-stays t known p (x ∷ []) r
+  later r = reaches-stays t known p (childOf p x) (append-adds p (x ∷ [])) r
 
   new-child : (w : ℕ) → New w → Child (length p) w
   new-child w (inl d) = once d

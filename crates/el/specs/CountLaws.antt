@@ -3,7 +3,7 @@
 --   upTo-length    == a list up to its first is not longer
 --   turn-length    == so many subtrees, each with so many nodes at most
 --   power-next, sum-first == 2^(n(k+1)) is 2^(nk) times 2^n, and a sum of such powers by its first
---   subtree-length == the nodes of a subtree
+--   tree-length    == the nodes of a tree
 --   count-some     == the root is always examined: N is not 0
 --   count-most     == "N is at most the sum of 2^((c+e)k) for k from 0 to v."
 use mathlib.Core.Path.{_≡_, refl, sym, ap, subst, _∙_}
@@ -15,7 +15,7 @@ use native.Mathlib.Nat.{mul-suc, mul-zero, add-mul, pow-zero}
 use lib.Pow.{pow-add}
 use lib.ListN.{length, length-append}
 use Rattle.el.specs.Table.{Table, atoms}
-use Rattle.el.specs.Walk.{Node, dead, ends, inTurn, treeOf, subtree, nodes, upToFirst, examined, count, sumTo, mostNodes}
+use Rattle.el.specs.Walk.{Node, ends, inTurn, treeOf, subtree, nodes, upToFirst, examined, count, sumTo, mostNodes}
 
 upTo-length : (p : Node → Bool) (l : List Node) → length (upToFirst p l) ≤ length l
 unfolding upToFirst
@@ -58,20 +58,20 @@ module _ (under : ℕ → ℕ → Bool) (t : Table) where
   abbrev sums : ℕ → ℕ
   sums r = sumTo r (λ k. 2 ^ (atoms t * k))
 
-  subtree-length : (r : ℕ) (s : Node) → length (subtree under t r s) ≤ sums r
+  tree-length : (gone : Node → Bool) (r : ℕ) (s : Node) → length (treeOf gone (2 ^ atoms t) r s) ≤ sums r
   unfolding treeOf sumTo
-  subtree-length zero s = let a : 2 ^ (atoms t * 0) ≡ 1 = power-none (atoms t) in omega arith
-  subtree-length (suc r) s = go (dead under t s) (λ (x : ℕ). subtree-length r (s ++ (x ∷ [])))
+  tree-length gone zero s = let a : 2 ^ (atoms t * 0) ≡ 1 = power-none (atoms t) in omega arith
+  tree-length gone (suc r) s = go (gone s) (λ (x : ℕ). tree-length gone r (s ++ (x ∷ [])))
     where
       whole : sums (suc r) ≡ 1 + sums r * 2 ^ atoms t
       whole = sum-first (atoms t) r
 
-      go : (b : Bool) → ((x : ℕ) → length (subtree under t r (s ++ (x ∷ []))) ≤ sums r)
-          → suc (length {A = Node} (elim b [ true ↦ [] | false ↦ inTurn (2 ^ atoms t) 0 (λ x. subtree under t r (s ++ (x ∷ []))) ])) ≤ sums (suc r)
+      go : (b : Bool) → ((x : ℕ) → length (treeOf gone (2 ^ atoms t) r (s ++ (x ∷ []))) ≤ sums r)
+          → suc (length {A = Node} (elim b [ true ↦ [] | false ↦ inTurn (2 ^ atoms t) 0 (λ x. treeOf gone (2 ^ atoms t) r (s ++ (x ∷ []))) ])) ≤ sums (suc r)
       go true h = let w : sums (suc r) ≡ 1 + sums r * 2 ^ atoms t = whole in omega arith
       go false h =
           let w : sums (suc r) ≡ 1 + sums r * 2 ^ atoms t = whole in
-          let l : length (inTurn (2 ^ atoms t) 0 (λ x. subtree under t r (s ++ (x ∷ [])))) ≤ sums r * 2 ^ atoms t = turn-length (2 ^ atoms t) 0 (sums r) (λ x. subtree under t r (s ++ (x ∷ []))) h in
+          let l : length (inTurn (2 ^ atoms t) 0 (λ x. treeOf gone (2 ^ atoms t) r (s ++ (x ∷ [])))) ≤ sums r * 2 ^ atoms t = turn-length (2 ^ atoms t) 0 (sums r) (λ x. treeOf gone (2 ^ atoms t) r (s ++ (x ∷ []))) h in
           omega arith
 
   pub count-some : 0 < count under t
@@ -82,13 +82,13 @@ module _ (under : ℕ → ℕ → Bool) (t : Table) where
       first l s = unfold upToFirst in omega arith
 
       go : (r : ℕ) → 0 < length (upToFirst (ends under t) (subtree under t r []))
-      go zero = unfold treeOf in first [] []
-      go (suc r) = unfold treeOf in first (elim (dead under t []) [ true ↦ [] | false ↦ inTurn (2 ^ atoms t) 0 (λ x. subtree under t r (x ∷ [])) ]) []
+      go zero = unfold treeOf in first _ []
+      go (suc r) = unfold treeOf in first _ []
 
   -- N IS AT MOST THE SUM OF ALL LEVELS
   pub count-most : count under t ≤ mostNodes t
   unfolding count examined nodes mostNodes
   count-most =
       let a : length (upToFirst (ends under t) (nodes under t)) ≤ length (nodes under t) = upTo-length (ends under t) (nodes under t) in
-      let b : length (subtree under t (t .variables) []) ≤ sums (t .variables) = subtree-length (t .variables) [] in
+      let b : length (nodes under t) ≤ sums (t .variables) = tree-length _ (t .variables) [] in
       omega arith

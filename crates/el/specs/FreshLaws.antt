@@ -22,7 +22,7 @@ use Rattle.el.specs.Assignment.{reaches, acyclic, induced}
 use Rattle.el.specs.Walk.{Node, lineVariables, settled, ready, fails, dead}
 use Rattle.el.specs.TestLaws.{is-true, true-is, false-not, same-test, or-left, or-right, and-make, and-left, and-right, anyOf-hit, anyOf-same, everyOf-at, everyOf-all}
 use Rattle.el.specs.ReachLaws.{reaches-means}
-use Rattle.el.specs.NodeLaws.{reaches-stays, acyclic-stays, settled-chosen, settled-reached, settled-make, holds-stays, dead-lines, noLine}
+use Rattle.el.specs.NodeLaws.{set-stays, append-adds, reaches-stays, acyclic-stays, settled-chosen, settled-reached, settled-make, holds-stays, dead-lines, noLine}
 
 unfoldable pub touches : Table → Node → ℕ → Line → Bool
 touches t s y l = anyOf (λ x. eqb x y || reaches t s x y) (lineVariables (t .rows) l)
@@ -53,7 +53,7 @@ module _ (t : Table) (known : T (declared t)) (p : Node) (x : ℕ) where
       let b : w ≡ length p → ⊥ = λ q. r (subst (λ (i : ℕ). T (reaches t (childOf p x) z i)) q k) in let c = child-length in omega arith)
     where
       onwards : (w : ℕ) → T (reaches t p z w) → T (reaches t (childOf p x) z w)
-      onwards w g = reaches-means t known (p ++ (x ∷ [])) z w .1 (reaches-stays t known p (x ∷ []) (reaches-means t known p z w .0 g))
+      onwards w g = reaches-means t known (p ++ (x ∷ [])) z w .1 (reaches-stays t known p (childOf p x) (append-adds p (x ∷ [])) (reaches-means t known p z w .0 g))
 
   pub ready-before : (l : Line) → T (ready t (childOf p x) l) → (T (touches t (childOf p x) (length p) l) → ⊥) → T (ready t p l)
   unfolding ready
@@ -63,7 +63,7 @@ module _ (t : Table) (known : T (declared t)) (p : Node) (x : ℕ) where
 
   module _ (under : ℕ → ℕ → Bool) (live : dead under t p ≡ false) (round : acyclic t (childOf p x) ≡ true) where
     pub parent-acyclic : acyclic t p ≡ true
-    parent-acyclic = is-true (acyclic t p) (acyclic-stays t known p (x ∷ []) (true-is (acyclic t (p ++ (x ∷ []))) round))
+    parent-acyclic = is-true (acyclic t p) (acyclic-stays t known p (childOf p x) (append-adds p (x ∷ [])) (true-is (acyclic t (p ++ (x ∷ []))) round))
 
     pub fresh-fails : (i : ℕ) → i < length (t .lines) → T (fails under t (childOf p x) (getD (t .lines) i noLine)) → T (touches t (childOf p x) (length p) (getD (t .lines) i noLine))
     fresh-fails i h f = go (touches t (childOf p x) (length p) l) refl
@@ -80,7 +80,7 @@ module _ (t : Table) (known : T (declared t)) (p : Node) (x : ℕ) where
         earlier : T (ready t p l) → T (fails under t p l)
         earlier r =
             unfold fails in and-make (ready t p l) (not (holds under (t .rows) (induced t p) l)) r
-            (subst (λ (b : Bool). T (not b)) (sym (holds-stays t known p (x ∷ []) under l r)) not-held)
+            (subst (λ (b : Bool). T (not b)) (sym (holds-stays t known p (childOf p x) (set-stays p (x ∷ [])) under l r)) not-held)
 
         go : (b : Bool) → touches t (childOf p x) (length p) l ≡ b → T (touches t (childOf p x) (length p) l)
         go true e = true-is (touches t (childOf p x) (length p) l) e

@@ -1,11 +1,14 @@
 -- A dead node hides no solution, and a full live node is one.
 --
 --   line-same       == a line under two substitutions that agree on its variables
+--   Agrees s n      == the sets chosen at s are those of n: n lies below s, and may be any assignment
+--   Adds s n        == the sets of n have every atom that those of s have
 --   set-stays       == a chosen set stays where more is chosen
+--   agrees-adds, append-adds == who agrees adds
 --   set-unchosen, depends-unchosen == a variable that is not chosen has the empty set and depends on none
---   depends-stays, reaches-stays, acyclic-stays == choosing more only adds dependences
+--   depends-stays, reaches-stays, acyclic-stays == atoms added only add dependences
 --   settled-chosen, settled-reached, settled-make == what it is to be settled
---   induced-stays   == what a settled variable stands for stays where more is chosen
+--   induced-stays   == what a settled variable stands for stays where the chosen sets do
 --   holds-stays     == so does the truth of a ready line
 --   noLine          == what stands beyond the last line
 --   dead-cyclic, dead-lines == a cyclic node is dead, and an acyclic one exactly if a line fails
@@ -14,7 +17,7 @@
 use mathlib.Core.Path.{_≡_, refl, sym, ap, ap₂, subst, _∙_}
 use mathlib.Core.Bool.{Bool, true, false, _&&_, _||_, not}
 use mathlib.Core.Logic.{inl, inr}
-use mathlib.Core.List.{List, [], _∷_, _++_, append-nil}
+use mathlib.Core.List.{List, [], _∷_, _++_}
 use Prim.Native.Nat.{ℕ, zero, suc, _+_, _≤_, _<_}
 use native.Mathlib.Omega.{arith}
 use native.Mathlib.Decide.{decLt}
@@ -27,10 +30,10 @@ use Rattle.el.specs.Table.{Filler, topF, constantF, variableF, Entry, co
 use Rattle.el.specs.Meaning.{Substitution, fillerUnder, entryUnder, leftUnder, holds, makes}
 use Rattle.el.specs.Assignment.{Assignment, setOf, depends, isVariable, Reaches, once, then, reaches, acyclic, setUnder, inducedTo, induced, solves}
 use Rattle.el.specs.Walk.{Node, chosen, fillerVariables, entryVariables, entriesVariables, lineVariables, settled, ready, fails, dead, full, ends}
-use Rattle.el.specs.TestLaws.{is-true, is-false, true-is, false-not, same-test, or-cases, and-make, and-left, and-right, anyBelow-none, allBelow-all, allBelow-at, anyOf-found, anyOf-hit, everyOf-at, everyOf-all, everyOf-append, bit-none}
+use Rattle.el.specs.TestLaws.{is-true, is-false, true-is, false-not, same-test, or-cases, and-make, and-left, and-right, anyBelow-none, anyBelow-hit, anyBelow-found, allBelow-all, allBelow-at, anyOf-found, anyOf-hit, everyOf-at, everyOf-all, everyOf-append, bit-none}
 use Rattle.el.specs.InducedLaws.{setUnder-same}
 use Rattle.el.specs.TableLaws.{row-declared, line-declared}
-use Rattle.el.specs.ReachLaws.{reaches-declared, reaches-means, depends-reaches, reaches-trans, acyclic-means, depends-same}
+use Rattle.el.specs.ReachLaws.{reaches-declared, reaches-means, depends-reaches, reaches-trans, acyclic-means}
 
 ----------------------------------------------------------------------------------------------------
 -- A line under two substitutions that agree on its variables
@@ -62,9 +65,15 @@ module _ (rows : List Row) (p : ℕ → Bool) (σ τ : Substitution) (same : (x 
       (entry-same (l .right) (and-right (everyOf p (entriesVariables rows (l .left))) (everyOf p (entryVariables rows (l .right))) k))
 
 ----------------------------------------------------------------------------------------------------
--- A node s and one below it, s ++ l
+-- A node s and one below it
 
-pub set-stays : (s l : Node) (x : ℕ) → x < length s → setOf s x ≡ setOf (s ++ l) x
+abbrev pub Agrees : Node → Node → Type 0
+Agrees s n = (x : ℕ) → x < length s → setOf s x ≡ setOf n x
+
+abbrev pub Adds : Node → Node → Type 0
+Adds s n = (x i : ℕ) → T (bit i (setOf s x)) → T (bit i (setOf n x))
+
+pub set-stays : (s l : Node) → Agrees s (s ++ l)
 unfolding setOf
 set-stays s l x h = sym (List·getD-append s l 0 x h)
 
@@ -79,22 +88,34 @@ depends-unchosen t s x y h =
     (λ k q. ap (λ (n : ℕ). bit (t .constants + k) n && isVariable y (rowAt (t .rows) k .filler)) (set-unchosen s x h)
     ∙ ap (λ (b : Bool). b && isVariable y (rowAt (t .rows) k .filler)) (bit-none (t .constants + k)))
 
-module _ (t : Table) (known : T (declared t)) (s l : Node) where
-  pub depends-stays : (x y : ℕ) → T (depends t s x y) → T (depends t (s ++ l) x y)
-  depends-stays x y d = go (decLt x (length s))
-    where
-      go : Dec (x < length s) → T (depends t (s ++ l) x y)
-      go (yes h) = subst T (depends-same t s (s ++ l) x y (set-stays s l x h)) d
-      go (no h) = absurd (false-not (depends t s x y) (depends-unchosen t s x y (omega arith)) d)
+pub agrees-adds : (s n : Node) → Agrees s n → Adds s n
+agrees-adds s n agrees x i b = go (decLt x (length s))
+  where
+    go : Dec (x < length s) → T (bit i (setOf n x))
+    go (yes h) = subst (λ (z : ℕ). T (bit i z)) (agrees x h) b
+    go (no h) = absurd (false-not (bit i (setOf s x)) (ap (bit i) (set-unchosen s x (omega arith)) ∙ bit-none i) b)
 
-  pub reaches-stays : {x y : ℕ} → Reaches (depends t s) x y → Reaches (depends t (s ++ l)) x y
+pub append-adds : (s l : Node) → Adds s (s ++ l)
+append-adds s l = agrees-adds s (s ++ l) (set-stays s l)
+
+module _ (t : Table) (known : T (declared t)) (s n : Node) (adds : Adds s n) where
+  pub depends-stays : (x y : ℕ) → T (depends t s x y) → T (depends t n x y)
+  unfolding depends
+  depends-stays x y d =
+      let f = anyBelow-found (length (t .rows)) (λ k. bit (t .constants + k) (setOf s x) && isVariable y (rowAt (t .rows) k .filler)) d in
+      let old = bit (t .constants + f .0) (setOf s x) in let is = isVariable y (rowAt (t .rows) (f .0) .filler) in
+      anyBelow-hit (length (t .rows)) (f .0) (λ k. bit (t .constants + k) (setOf n x) && isVariable y (rowAt (t .rows) k .filler)) (f .1)
+      (and-make (bit (t .constants + f .0) (setOf n x)) is (adds x (t .constants + f .0) (and-left old is (f .2))) (and-right old is (f .2)))
+
+  pub reaches-stays : {x y : ℕ} → Reaches (depends t s) x y → Reaches (depends t n) x y
   reaches-stays (once {x} {y} d) = once (depends-stays x y d)
   reaches-stays (then {x} {y} d r) = then (depends-stays x y d) (reaches-stays r)
 
-  pub acyclic-stays : T (acyclic t (s ++ l)) → T (acyclic t s)
+  pub acyclic-stays : T (acyclic t n) → T (acyclic t s)
   unfolding Rattle.el.specs.Assignment.Acyclic
-  acyclic-stays h = acyclic-means t known s .1 (λ x r. acyclic-means t known (s ++ l) .0 h x (reaches-stays r))
+  acyclic-stays h = acyclic-means t known s .1 (λ x r. acyclic-means t known n .0 h x (reaches-stays r))
 
+module _ (t : Table) (known : T (declared t)) (s l : Node) where
   pub settled-chosen : (x : ℕ) → T (settled t s x) → x < length s
   unfolding settled chosen
   settled-chosen x h = ltb→lt x (length s) (and-left (ltb x (length s)) (allBelow (t .variables) (λ y. not (reaches t s x y) || chosen s y)) h)
@@ -122,16 +143,17 @@ module _ (t : Table) (known : T (declared t)) (s l : Node) where
       settled-make y (settled-reached x y h (depends-reaches t known s x y d))
       (λ z r. settled-reached x z h (reaches-trans t known s x y z (depends-reaches t known s x y d) r))
 
-  pub induced-stays : (k x : ℕ) → T (settled t s x) → inducedTo t s k x ≡ inducedTo t (s ++ l) k x
+module _ (t : Table) (known : T (declared t)) (s n : Node) (agrees : Agrees s n) where
+  pub induced-stays : (k x : ℕ) → T (settled t s x) → inducedTo t s k x ≡ inducedTo t n k x
   unfolding inducedTo
   induced-stays zero x h = refl
   induced-stays (suc k) x h =
-      setUnder-same t s x (inducedTo t s k) (inducedTo t (s ++ l) k) (λ y d. induced-stays k y (settled-next x y h d))
-      ∙ ap (setUnder t (inducedTo t (s ++ l) k)) (set-stays s l x (settled-chosen x h))
+      setUnder-same t s x (inducedTo t s k) (inducedTo t n k) (λ y d. induced-stays k y (settled-next t known s [] x y h d))
+      ∙ ap (setUnder t (inducedTo t n k)) (agrees x (settled-chosen t known s [] x h))
 
-  pub holds-stays : (under : ℕ → ℕ → Bool) (line : Line) → T (ready t s line) → holds under (t .rows) (induced t s) line ≡ holds under (t .rows) (induced t (s ++ l)) line
+  pub holds-stays : (under : ℕ → ℕ → Bool) (line : Line) → T (ready t s line) → holds under (t .rows) (induced t s) line ≡ holds under (t .rows) (induced t n) line
   unfolding ready induced
-  holds-stays under line h = line-same (t .rows) (settled t s) (induced t s) (induced t (s ++ l)) (λ x q. induced-stays (t .variables) x q) under line h
+  holds-stays under line h = line-same (t .rows) (settled t s) (induced t s) (induced t n) (λ x q. induced-stays (t .variables) x q) under line h
 
 ----------------------------------------------------------------------------------------------------
 -- Dead, and what ends the walk
@@ -151,21 +173,21 @@ module _ (under : ℕ → ℕ → Bool) (t : Table) where
 
   module _ (known : T (declared t)) where
     -- NO NODE BELOW A DEAD ONE SOLVES
-    pub dead-hides : (s l : Node) → dead under t s ≡ true → solves under t (s ++ l) ≡ false
+    pub dead-hides : (s n : Node) → Agrees s n → dead under t s ≡ true → solves under t n ≡ false
     unfolding solves makes fails
-    dead-hides s l e = is-false (solves under t (s ++ l)) no-solution
+    dead-hides s n agrees e = is-false (solves under t n) no-solution
       where
-        no-solution : T (acyclic t (s ++ l) && everyOf (holds under (t .rows) (induced t (s ++ l))) (t .lines)) → ⊥
+        no-solution : T (acyclic t n && everyOf (holds under (t .rows) (induced t n)) (t .lines)) → ⊥
         no-solution h =
-            let a : T (acyclic t (s ++ l)) = and-left (acyclic t (s ++ l)) (everyOf (holds under (t .rows) (induced t (s ++ l))) (t .lines)) h in
-            let m : T (everyOf (holds under (t .rows) (induced t (s ++ l))) (t .lines)) = and-right (acyclic t (s ++ l)) (everyOf (holds under (t .rows) (induced t (s ++ l))) (t .lines)) h in
-            let q : T (anyOf (fails under t s) (t .lines)) = true-is (anyOf (fails under t s) (t .lines)) (sym (dead-lines s (is-true (acyclic t s) (acyclic-stays t known s l a))) ∙ e) in
+            let a : T (acyclic t n) = and-left (acyclic t n) (everyOf (holds under (t .rows) (induced t n)) (t .lines)) h in
+            let m : T (everyOf (holds under (t .rows) (induced t n)) (t .lines)) = and-right (acyclic t n) (everyOf (holds under (t .rows) (induced t n)) (t .lines)) h in
+            let q : T (anyOf (fails under t s) (t .lines)) = true-is (anyOf (fails under t s) (t .lines)) (sym (dead-lines s (is-true (acyclic t s) (acyclic-stays t known s n (agrees-adds s n agrees) a))) ∙ e) in
             let f = anyOf-found (fails under t s) (t .lines) noLine q in
             let line = getD (t .lines) (f .0) noLine in
             let g : T (ready t s line && not (holds under (t .rows) (induced t s) line)) = f .2 in
             T-not (holds under (t .rows) (induced t s) line) (and-right (ready t s line) (not (holds under (t .rows) (induced t s) line)) g)
-            (subst T (sym (holds-stays t known s l under line (and-left (ready t s line) (not (holds under (t .rows) (induced t s) line)) g)))
-            (everyOf-at (holds under (t .rows) (induced t (s ++ l))) (t .lines) (f .0) noLine m (f .1)))
+            (subst T (sym (holds-stays t known s n agrees under line (and-left (ready t s line) (not (holds under (t .rows) (induced t s) line)) g)))
+            (everyOf-at (holds under (t .rows) (induced t n)) (t .lines) (f .0) noLine m (f .1)))
 
     -- at a full node every line is ready
     module _ (s : Node) (whole : length s ≡ t .variables) where
@@ -221,9 +243,7 @@ module _ (under : ℕ → ℕ → Bool) (t : Table) where
           go false e = absurd (T-not (dead under t s) h (true-is (dead under t s) (dead-cyclic s e)))
 
       solves-live : T (solves under t s) → T (not (dead under t s))
-      solves-live h =
-          not-T (dead under t s) (λ d. false-not (solves under t s)
-          (subst (λ (n : Node). solves under t n ≡ false) (append-nil s) (dead-hides s [] (is-true (dead under t s) d))) h)
+      solves-live h = not-T (dead under t s) (λ d. false-not (solves under t s) (dead-hides s s (λ x _. refl) (is-true (dead under t s) d)) h)
 
       -- A FULL NODE ENDS THE WALK EXACTLY IF IT SOLVES
       pub full-ends : ends under t s ≡ solves under t s

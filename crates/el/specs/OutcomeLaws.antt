@@ -9,8 +9,8 @@
 --   outcome-says    == what each outcome says, and when it is given
 --   more-budget     == a larger budget gives the same outcome
 use mathlib.Core.Path.{_≡_, refl, sym, ap, subst, _∙_}
-use mathlib.Core.Bool.{Bool, true, false, _&&_, not, and-false}
-use mathlib.Core.List.{List, [], _∷_}
+use mathlib.Core.Bool.{Bool, false, _&&_, not, and-false}
+use mathlib.Core.List.{List, [], _∷_, _++_}
 use mathlib.Core.Option.{Option, none, some}
 use Prim.Native.Nat.{ℕ, zero, suc, _^_, _≤_, _<_}
 use native.Mathlib.Omega.{arith}
@@ -24,7 +24,7 @@ use Rattle.el.specs.Assignment.{Assignment, IsAssignment, solves, Before
 use Rattle.el.specs.Walk.{Node, dead, full, ends, subtree, nodes, firstOf, count, Outcome, solved, nothing, budget, ended, outcome}
 use Rattle.el.specs.TestLaws.{is-true, true-is, and-make, and-left, and-right}
 use Rattle.el.specs.FirstLaws.{extensions, Choices, FirstSays, first-least, first-same, live-full}
-use Rattle.el.specs.NodeLaws.{dead-hides, full-ends}
+use Rattle.el.specs.NodeLaws.{set-stays, dead-hides, full-ends}
 
 -- an assignment of t is a choice of as many sets as there are variables
 choices-assignment : (t : Table) (r : ℕ) (a : List ℕ) → Choices (2 ^ atoms t) r a → (length a ≡ r) × T (everyOf (λ s. ltb s (2 ^ atoms t)) a)
@@ -60,7 +60,7 @@ module _ (under : ℕ → ℕ → Bool) (t : Table) (known : T (declared t)) whe
   unfolding nodes assignments
   first-solution =
       first-same (ends under t) (solves under t) (subtree under t (t .variables) []) (extensions (2 ^ atoms t) (t .variables) [])
-      (live-full (dead under t) (solves under t) (t .variables) (2 ^ atoms t) (λ n l e. dead-hides under t known n l e)
+      (live-full (dead under t) (solves under t) (t .variables) (2 ^ atoms t) (λ n l e. dead-hides under t known n (n ++ l) (set-stays n l) e)
       (ends under t) (λ s h. full-ends under t known s h) (λ s h. not-full s h) (t .variables) [] (omega arith))
 
   pub outcome-within : (b : ℕ) → count under t ≤ b → outcome under t b ≡ ended (count under t) (firstOf (solves under t) (assignments t))

@@ -39,8 +39,8 @@ use Rattle.table.specs.Layout.{lineAt}
 use Rattle.node.specs.declared.Sets.{Sets}
 use Rattle.node.specs.Node.{LineStarts, NodeGiven, rowOf}
 use Rattle.level.specs.declared.Level.{Level}
-use Rattle.level.specs.declared.Stop.{Stop}
-use Rattle.level.specs.declared.Stop.the-variants.{Live, Over, Spent}
+use Rattle.level.specs.declared.Halt.{Halt}
+use Rattle.level.specs.declared.Halt.the-variants.{Live, Over, Spent}
 use Rattle.level.specs.declared.Swept.{Swept}
 
 unfoldable pub newBy : List ℕ → ℕ → ℕ → ℕ → Bool
@@ -136,7 +136,7 @@ deadSibling t sets x = dead (roleOrder t) t (take (sets .chosen) (siblingOf sets
 unfoldable pub Passes : Table → Sets → ℕ → Type 0
 Passes t sets i = (j : ℕ) → j < i → deadSibling t sets (ownOf sets + j) ≡ true
 
-abbrev pub SweepsAs : Table → Sets → ℕ → ℕ → Stop → ℕ → ℕ → Type 0
+abbrev pub SweepsAs : Table → Sets → ℕ → ℕ → Halt → ℕ → ℕ → Type 0
 SweepsAs t sets last most Live passed at =
     (i : ℕ) × (passed ≡ i + 1) × (at ≡ ownOf sets + i) × Passes t sets i × (deadSibling t sets at ≡ false)
 SweepsAs t sets last most Over passed at =

@@ -23,7 +23,7 @@ use Rattle.table.specs.Reading.{tableOf}
 use Rattle.node.specs.Node.{nodeOf, Clean}
 use Rattle.node.specs.SquareLaws.{clean-next}
 use Rattle.node.specs.NodeTestLaws.{node-few}
-use Rattle.level.specs.declared.Stop.the-variants.{Live, Over, Spent}
+use Rattle.level.specs.declared.Halt.the-variants.{Live, Over, Spent}
 use Rattle.level.specs.LevelLaws.{dead-cycle, dead-open, below-given, dead-fresh}
 use Rattle.level.specs.Level.{Levels, setsOf, levelOf, FreshGiven, freshFails, ChildGiven, siblingOf, ownOf, deadSibling, Passes, Sweeps}
 

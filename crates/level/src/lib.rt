@@ -195,8 +195,8 @@ fn is_dead(
     fresh_fails(table, over, inner, start, fresh, few, c, e, v, set)
 }
 
-// What stopped a sweep over siblings: a live one, the last one passed, or as many examined as were allowed.
-pub enum Stop {
+// What halted a sweep over siblings: a live one, the last one passed, or as many examined as were allowed.
+pub enum Halt {
     Live,
     Over,
     Spent,
@@ -204,7 +204,7 @@ pub enum Stop {
 
 // How many siblings were examined, and the set number of the one at hand.
 pub struct Swept {
-    pub end: Stop,
+    pub end: Halt,
     pub passed: u32,
     pub at: u32,
 }
@@ -255,14 +255,14 @@ pub fn sweep(
             &set,
         ) {
             return Swept {
-                end: Stop::Live,
+                end: Halt::Live,
                 passed,
                 at: x,
             };
         }
         if last <= x {
             return Swept {
-                end: Stop::Over,
+                end: Halt::Over,
                 passed,
                 at: x,
             };
@@ -271,7 +271,7 @@ pub fn sweep(
     }
     let at = set[y];
     Swept {
-        end: Stop::Spent,
+        end: Halt::Spent,
         passed,
         at,
     }

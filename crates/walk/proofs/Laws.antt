@@ -1,9 +1,10 @@
 -- Laws of the steps of the walk, over a list of set numbers a and how many are chosen, k.
 --
 --   HasEnded going    == the walk does not go on
---   leads-on, goes-on  == some nodes, and then a step
+--   keeps-same, keeps-on, keeps-sound == what is so of a node, from one to the next
+--   leads-on, goes-on  == some nodes, and then a step; `goes-as`, where it is known where that goes
 --   set-within         == a set number put into a list
---   next-range, up-range, next-live, up-live == a sibling, and the node above
+--   keeps-sibling, keeps-up == a sibling, and the node above
 --   Climbs t a₀ k₀ a k == what comes after the first node comes after the second, and what is so of the first is so of the second
 --   climbs-start, climbs-up, next-sibling, next-none == the loop of `next_node`
 --   looks-dead, looks-solved, looks-down == what examining a node finds
@@ -11,17 +12,18 @@
 --   given-table        == the counts, read off the table's bytes
 --   sibling-next, swept-moves == dead siblings, gone along
 --   advanced-live, advanced-over, advanced-spent == a sweep by its end, and the step after it
+--   ran-none, ran-on, runs-ended, runs-whole == a run of no node, of some after others, one that ended, and a whole one
 --   Running t first counted end sets count == the loop of a run: so far it went along nodes none of which ends the walk
 --   running-start, running-fits, running-on, running-spent, running-ended == its turns and ends
---   runs-none, runs-one, runs-more == a run by what the first node is
+--   runs-one, runs-more == a run by where its first node leads
 --   runs-stays, runs-going == a run by its state
 --   zeros, fresh-sound == the root
---   walked-found, walked-over, walked-spent == the outcome, where a run from the root with the budget as its share ended
+--   walked-few, walked-found, walked-over, walked-spent == the outcome, where a run from the root with the budget as its share ended
 use mathlib.Core.Path.{_≡_, refl, sym, ap, ap₂, subst, _∙_}
-use mathlib.Core.Bool.{Bool, true, false}
+use mathlib.Core.Bool.{true, false}
 use mathlib.Core.List.{List, [], _∷_}
 use Prim.Native.Nat.{ℕ, zero, suc, _+_, _-_, _^_, _≤_, _<_}
-use native.Mathlib.Nat.{sub-zero, add-zero}
+use native.Mathlib.Nat.{add-zero}
 use native.Mathlib.Numerals.{add-one}
 use native.Mathlib.Omega.{arith}
 use native.Mathlib.Decide.{ℕ-discrete}
@@ -33,7 +35,7 @@ use lib.Dec.{T}
 use lib.Pow.{pow-mono, pow-pos}
 use borrow.Author.Tests.{eq-eqb, ne-eqb}
 use Rattle.el.specs.Walk.{Node, dead, full, ends, nodes, solved, nothing, budget, outcome}
-use Rattle.el.specs.Along.{remaining, afterwards, Moves, scan}
+use Rattle.el.specs.Along.{remaining, Moves, scan}
 use Rattle.el.specs.ScanLaws.{scan-end, scan-spent, scan-solved, scan-moves, scan-means, moves-none, moves-one, moves-on}
 use Rattle.el.specs.StepLaws.{remaining-start, remaining-gone, remaining-down, remaining-first, afterwards-hit, afterwards-miss, afterwards-end}
 use Rattle.node.specs.declared.Sets.{Sets}
@@ -43,15 +45,15 @@ use Rattle.node.specs.Node.{nodeOf, Clean, NodeGiven, Prepares}
 use Rattle.node.specs.SquareLaws.{clean-next, clean-up, length-node}
 use Rattle.level.specs.declared.Level.{Level}
 use Rattle.level.specs.declared.Swept.{Swept}
-use Rattle.level.specs.declared.Stop.{Stop}
-use Rattle.level.specs.declared.Stop.the-variants as stop
+use Rattle.level.specs.declared.Halt.{Halt}
+use Rattle.level.specs.declared.Halt.the-variants as halt
 use Rattle.level.specs.Level.{Levels, setsOf, siblingOf, ownOf, deadSibling, Passes, SweepsAs, Sweeps, SweepGiven}
 use Rattle.walk.specs.declared.Going.{Going}
 use Rattle.walk.specs.declared.Going.the-variants.{Solved, On, Over}
 use Rattle.walk.specs.declared.Step.{Step}
 use Rattle.walk.specs.declared.Gone.{Gone}
 use Rattle.walk.specs.declared.State.{State}
-use Rattle.walk.specs.Step.{InRangeAt, LiveAboveAt, InRange, LiveAbove, Sound, rest, after, deadAt, Leads, Goes, HasParent, Next, Looks, Advances, RunsOn, RunsAs, Runs, Fresh, Given}
+use Rattle.walk.specs.Step.{InRangeAt, LiveAboveAt, InRange, LiveAbove, Sound, KeepsAt, Keeps, rest, after, deadAt, Leads, Goes, Next, Looks, Advances, Ran, RunsOn, RunsAs, Runs, Fresh, Given}
 
 ----------------------------------------------------------------------------------------------------
 -- Some nodes, and then a step
@@ -67,12 +69,19 @@ ended-off g h e = subst HasEnded e h
 leads-on : (t : Table) (i n : ℕ) (l m : List Node) (g : Going) (to : Sets) → Moves (ends sameRole t) i l m → Leads t m n g to → Leads t l (i + n) g to
 leads-on t i n l m Solved to a k = let e : n ≡ k .0 + 1 = k .1 in (i + k .0, omega arith, moves-on a (k .2), k .3)
 leads-on t i n l m On to a k = moves-on a k
-leads-on t i n l m Over to a k = moves-on a k
+leads-on t i n l m Over to a k = (moves-on a (k .0), k .1)
 
-pub goes-on : {t : Table} {i n : ℕ} {l m : List Node} {from mid : Sets} {g : Going} {to : Sets} → Moves (ends sameRole t) i l m
-    → (InRange t from → InRange t mid) → (LiveAbove t from → LiveAbove t mid) → Goes t m n mid g to → Goes t l (i + n) from g to
-goes-on {t} {i} {n} {l} {m} {from} {mid} {g} {to} a range live goes =
-    record { leads = leads-on t i n l m g to a (goes .leads); in-range = λ r. goes .in-range (range r); live-above = λ h. goes .live-above (live h) }
+pub keeps-same : {t : Table} {a : List ℕ} {k : ℕ} → KeepsAt t a k a k
+keeps-same = record { in-range = λ r. r; live-above = λ f. f }
+
+keeps-on : {t : Table} {a : List ℕ} {k : ℕ} {b : List ℕ} {i : ℕ} {c : List ℕ} {j : ℕ} → KeepsAt t a k b i → KeepsAt t b i c j → KeepsAt t a k c j
+keeps-on p q = record { in-range = λ r. q .in-range (p .in-range r); live-above = λ f. q .live-above (p .live-above f) }
+
+pub keeps-sound : {t : Table} {from to : Sets} → Keeps t from to → Sound t from → Sound t to
+keeps-sound p sound = record { in-range = p .in-range (sound .in-range); live-above = p .live-above (sound .live-above) }
+
+goes-on : {t : Table} {i n : ℕ} {l m : List Node} {from mid : Sets} {g : Going} {to : Sets} → Moves (ends sameRole t) i l m → Keeps t from mid → Goes t m n mid g to → Goes t l (i + n) from g to
+goes-on {t} {i} {n} {l} {m} {g = g} {to} a keeps goes = record { leads = leads-on t i n l m g to a (goes .leads); keeps = keeps-on keeps (goes .keeps) }
 
 -- what a step says, where it is known where it goes
 goes-as : {t : Table} {l : List Node} {n : ℕ} {from to : Sets} (g h : Going) → g ≡ h → Goes t l n from g to → Goes t l n from h to
@@ -88,66 +97,65 @@ set-within a i y w k h l f x q = go (ℕ-discrete x i)
     go (yes e) = subst (λ (j : ℕ). getD (set a i y) j 0 < w) (sym e) (subst (λ (z : ℕ). z < w) (sym (getD-set-same a i y 0 h)) l)
     go (no e) = subst (λ (z : ℕ). z < w) (sym (getD-set-other a i x y 0 e)) (f x q e)
 
-pub record Climbs (t : Table) (a₀ : List ℕ) (k₀ : ℕ) (a : List ℕ) (k : ℕ) : Type 0 where
-  pub same : afterwards (dead sameRole t) (2 ^ atoms t) (t .variables) a₀ k₀ ≡ afterwards (dead sameRole t) (2 ^ atoms t) (t .variables) a k
-  pub in-range : InRangeAt t a₀ k₀ → InRangeAt t a k
-  pub live-above : LiveAboveAt t a₀ k₀ → LiveAboveAt t a k
-
-pub climbs-start : (t : Table) (a : List ℕ) (k : ℕ) → Climbs t a k a k
-climbs-start t a k = record { same = refl; in-range = λ r. r; live-above = λ h. h }
-
 module _ (t : Table) (a : List ℕ) (k : ℕ) (some : 0 < k) (fits : k ≤ length a) where
   live-set : (y j : ℕ) → j ≤ k → LiveAboveAt t a k → LiveAboveAt t (set a (k - 1) y) j
   unfolding LiveAboveAt
   live-set y j h f i l = ap (dead sameRole t) (take-set-le i a (k - 1) y (omega arith)) ∙ f i (omega arith)
 
-  up-range : InRangeAt t a k → InRangeAt t (set a (k - 1) 0) (k - 1)
-  up-range r =
+  keeps-sibling : (y : ℕ) → y < 2 ^ atoms t → KeepsAt t a k (set a (k - 1) y) k
+  keeps-sibling y h =
       record {
-        few = let h : k ≤ t .variables = r .few in omega arith;
-        sets = set-within a (k - 1) 0 (2 ^ atoms t) (k - 1) (omega arith) (pow-pos (atoms t)) (λ x h _. r .sets x (omega arith));
-        clean = clean-up a k some fits (r .clean);
+        in-range = λ r. record { few = r .few; sets = set-within a (k - 1) y (2 ^ atoms t) k (omega arith) h (λ x l _. r .sets x l); clean = clean-next a k y some (r .clean) };
+        live-above = live-set y k (omega arith);
       }
 
-  pub next-range : (y : ℕ) → y < 2 ^ atoms t → InRangeAt t a k → InRangeAt t (set a (k - 1) y) k
-  next-range y h r =
+  keeps-up : KeepsAt t a k (set a (k - 1) 0) (k - 1)
+  keeps-up =
       record {
-        few = r .few;
-        sets = set-within a (k - 1) y (2 ^ atoms t) k (omega arith) h (λ x l _. r .sets x l);
-        clean = clean-next a k y some (r .clean);
+        in-range = λ r. record {
+          few = let h : k ≤ t .variables = r .few in omega arith;
+          sets = set-within a (k - 1) 0 (2 ^ atoms t) (k - 1) (omega arith) (pow-pos (atoms t)) (λ x h _. r .sets x (omega arith));
+          clean = clean-up a k some fits (r .clean);
+        };
+        live-above = live-set 0 (k - 1) (omega arith);
       }
 
-  module _ (last : ℕ) (width : 2 ^ atoms t ≡ last + 1) (a₀ : List ℕ) (k₀ : ℕ) (climbs : Climbs t a₀ k₀ a k) where
+pub record Climbs (t : Table) (a₀ : List ℕ) (k₀ : ℕ) (a : List ℕ) (k : ℕ) : Type 0 where
+  pub same : after t (setsOf a₀ k₀) ≡ after t (setsOf a k)
+  pub keeps : KeepsAt t a₀ k₀ a k
+
+pub climbs-start : (t : Table) (a : List ℕ) (k : ℕ) → Climbs t a k a k
+climbs-start t a k = record { same = refl; keeps = keeps-same }
+
+module _ (t : Table) (a₀ : List ℕ) (k₀ : ℕ) (a : List ℕ) (k : ℕ) (climbs : Climbs t a₀ k₀ a k) where
+  module _ (some : 0 < k) (fits : k ≤ length a) (last : ℕ) (width : 2 ^ atoms t ≡ last + 1) where
     -- where the node has no sibling left, the walk goes up
     pub climbs-up : last ≤ getD a (k - 1) 0 → Climbs t a₀ k₀ (set a (k - 1) 0) (k - 1)
     climbs-up h =
         record {
-          same = climbs .same ∙ afterwards-miss (dead sameRole t) (2 ^ atoms t) (t .variables) a k some (omega arith);
-          in-range = λ r. up-range (climbs .in-range r);
-          live-above = λ f. live-set 0 (k - 1) (omega arith) (climbs .live-above f);
+          same = climbs .same ∙ (unfold after in afterwards-miss (dead sameRole t) (2 ^ atoms t) (t .variables) a k some (omega arith));
+          keeps = keeps-on (climbs .keeps) (keeps-up t a k some fits);
         }
 
     pub next-sibling : getD a (k - 1) 0 < last → Next t (setsOf a₀ k₀) (record { going = On; sets = setsOf (set a (k - 1) (getD a (k - 1) 0 + 1)) k })
     next-sibling h =
         record {
           goes = record {
-            leads = moves-none (unfold after rest in (climbs .same ∙ afterwards-hit (dead sameRole t) (2 ^ atoms t) (t .variables) a k some fits (omega arith)));
-            in-range = λ r. next-range (getD a (k - 1) 0 + 1) (omega arith) (climbs .in-range r);
-            live-above = λ f. live-set (getD a (k - 1) 0 + 1) k (omega arith) (climbs .live-above f);
+            leads = moves-none (climbs .same ∙ (unfold after rest in afterwards-hit (dead sameRole t) (2 ^ atoms t) (t .variables) a k some fits (omega arith)));
+            keeps = keeps-on (climbs .keeps) (keeps-sibling t a k some fits (getD a (k - 1) 0 + 1) (omega arith));
           };
           parent = λ _. some;
         }
 
-pub next-none : (t : Table) (a₀ : List ℕ) (k₀ : ℕ) (a : List ℕ) (k : ℕ) → k ≡ 0 → Climbs t a₀ k₀ a k → Next t (setsOf a₀ k₀) (record { going = Over; sets = setsOf a 0 })
-next-none t a₀ k₀ a k e climbs =
-    record {
-      goes = record {
-        leads = moves-none (unfold after in (climbs .same ∙ afterwards-end (dead sameRole t) (2 ^ atoms t) (t .variables) a k e));
-        in-range = λ r. subst (InRangeAt t a) e (climbs .in-range r);
-        live-above = λ f. subst (LiveAboveAt t a) e (climbs .live-above f);
-      };
-      parent = λ o. absurd (ended-off Over tt o);
-    }
+  pub next-none : k ≡ 0 → Next t (setsOf a₀ k₀) (record { going = Over; sets = setsOf a 0 })
+  next-none e =
+      record {
+        goes = record {
+          leads = (moves-none (climbs .same ∙ (unfold after in afterwards-end (dead sameRole t) (2 ^ atoms t) (t .variables) a k e)), refl);
+          keeps = subst (KeepsAt t a₀ k₀ a) e (climbs .keeps);
+        };
+        parent = λ o. absurd (ended-off Over tt o);
+      }
 
 ----------------------------------------------------------------------------------------------------
 -- Examining the node (take k a)
@@ -170,13 +178,13 @@ module _ (t : Table) (sets : Sets) where
   unfolding deadAt
   looks-dead step e next =
       let q : rest t sets ≡ nodeOf sets ∷ after t sets = unfold rest after nodeOf in remaining-gone (dead sameRole t) (2 ^ atoms t) (t .variables) (sets .set) (sets .chosen) e in
-      record { goes = goes-on (moves-one (nodeOf sets) q (ends-dead t (nodeOf sets) e)) (λ r. r) (λ h. h) (next .goes); parent = next .parent }
+      record { goes = goes-on (moves-one (nodeOf sets) q (ends-dead t (nodeOf sets) e)) keeps-same (next .goes); parent = next .parent }
 
   module _ (fits : sets .chosen ≤ length (sets .set)) (live : deadAt t sets ≡ false) where
     pub looks-solved : sets .chosen ≡ t .variables → Looks t sets (record { going = Solved; sets = sets })
     looks-solved h =
         record {
-          goes = record { leads = (0, refl, moves-none refl, ends-live t (nodeOf sets) (unfold deadAt in live) (length-node sets fits ∙ h)); in-range = λ r. r; live-above = λ f. f };
+          goes = record { leads = (0, refl, moves-none refl, ends-live t (nodeOf sets) (unfold deadAt in live) (length-node sets fits ∙ h)); keeps = keeps-same };
           parent = λ o. absurd (ended-off Solved tt o);
         }
 
@@ -186,8 +194,7 @@ module _ (t : Table) (sets : Sets) where
         record {
           goes = record {
             leads = moves-one (nodeOf sets) down (ends-part t (nodeOf sets) here (λ z. let y : sets .chosen ≡ t .variables = sym (length-node sets fits) ∙ z in omega arith));
-            in-range = λ r. subst (InRange t) (sym is-child) (range r);
-            live-above = λ f. subst (LiveAbove t) (sym is-child) (above f);
+            keeps = subst (Keeps t sets) (sym is-child) (record { in-range = range; live-above = above });
           };
           parent = λ _. omega arith;
         }
@@ -324,13 +331,10 @@ module _ (t : Table) (last : ℕ) (width : 2 ^ atoms t ≡ last + 1) (sets : Set
     is-sibling : here ≡ sibling (swept .at)
     is-sibling = ap₂ (λ (a : List ℕ) (k : ℕ). setsOf a k) set-is chosen-is
 
-    here-range : InRange t sets → InRange t here
-    here-range r = subst (InRange t) (sym is-sibling) (next-range t (sets .set) (sets .chosen) some fits (swept .at) (let w : swept .at ≤ last = sweeps .within in omega arith) r)
+    here-keeps : Keeps t sets here
+    here-keeps = subst (Keeps t sets) (sym is-sibling) (keeps-sibling t (sets .set) (sets .chosen) some fits (swept .at) (let w : swept .at ≤ last = sweeps .within in omega arith))
 
-    here-live : LiveAbove t sets → LiveAbove t here
-    here-live f = subst (LiveAbove t) (sym is-sibling) (live-set t (sets .set) (sets .chosen) some fits (swept .at) (sets .chosen) (omega arith) f)
-
-    pub here-dead : deadSibling t sets (swept .at) ≡ deadAt t here
+    here-dead : deadSibling t sets (swept .at) ≡ deadAt t here
     here-dead = unfold deadSibling deadAt nodeOf in ap (λ (x : Sets). dead sameRole t (take (x .chosen) (x .set))) (sym is-sibling)
 
     here-moves : (i : ℕ) → swept .at ≡ ownOf sets + i → Passes t sets i → Moves (ends sameRole t) i (rest t sets) (rest t here)
@@ -339,8 +343,8 @@ module _ (t : Table) (last : ℕ) (width : 2 ^ atoms t ≡ last + 1) (sets : Set
         (swept-moves i (let w : swept .at ≤ last = sweeps .within in omega arith) p)
 
     -- what the sweep says, by its end
-    as-ended : (x : Stop) → swept .end ≡ x → SweepsAs t sets last most x (swept .passed) (swept .at)
-    as-ended x e = subst (λ (z : Stop). SweepsAs t sets last most z (swept .passed) (swept .at)) e (sweeps .ends)
+    as-ended : (x : Halt) → swept .end ≡ x → SweepsAs t sets last most x (swept .passed) (swept .at)
+    as-ended x e = subst (λ (z : Halt). SweepsAs t sets last most z (swept .passed) (swept .at)) e (sweeps .ends)
 
     module _ (step : Step) where
       -- i siblings are dead, and the one at hand is examined
@@ -349,106 +353,88 @@ module _ (t : Table) (last : ℕ) (width : 2 ^ atoms t ≡ last + 1) (sets : Set
           record {
             some = omega arith;
             few = sweeps .few;
-            goes = subst (λ (n : ℕ). Goes t (rest t sets) n sets (step .going) (step .sets)) (sym all) (goes-on (here-moves i e p) here-range here-live (looks .goes));
+            goes = subst (λ (n : ℕ). Goes t (rest t sets) n sets (step .going) (step .sets)) (sym all) (goes-on (here-moves i e p) here-keeps (looks .goes));
             parent = looks .parent;
           }
 
-      pub advanced-live : swept .end ≡ stop.Live → (deadAt t here ≡ false → Looks t here step) → Advances t sets most (record { going = step .going; sets = step .sets; passed = swept .passed })
-      advanced-live e looks = let w = as-ended stop.Live e in advanced (w .0) (w .1) (w .2) (w .3) (looks (sym here-dead ∙ w .4))
+      pub advanced-live : swept .end ≡ halt.Live → (deadAt t here ≡ false → Looks t here step) → Advances t sets most (record { going = step .going; sets = step .sets; passed = swept .passed })
+      advanced-live e looks = let w = as-ended halt.Live e in advanced (w .0) (w .1) (w .2) (w .3) (looks (sym here-dead ∙ w .4))
 
-      pub advanced-over : swept .end ≡ stop.Over → Next t here step → Advances t sets most (record { going = step .going; sets = step .sets; passed = swept .passed })
-      advanced-over e next = let w = as-ended stop.Over e in advanced (w .0) (w .1) (w .2) (w .3) (looks-dead t here step (sym here-dead ∙ w .4) next)
+      pub advanced-over : swept .end ≡ halt.Over → Next t here step → Advances t sets most (record { going = step .going; sets = step .sets; passed = swept .passed })
+      advanced-over e next = let w = as-ended halt.Over e in advanced (w .0) (w .1) (w .2) (w .3) (looks-dead t here step (sym here-dead ∙ w .4) next)
 
     -- all that were allowed are dead
-    pub advanced-spent : swept .end ≡ stop.Spent → 0 < most → Advances t sets most (record { going = On; sets = here; passed = swept .passed })
+    pub advanced-spent : swept .end ≡ halt.Spent → 0 < most → Advances t sets most (record { going = On; sets = here; passed = swept .passed })
     advanced-spent e h =
-        let w = as-ended stop.Spent e in
+        let w = as-ended halt.Spent e in
         let q : swept .passed ≡ most = w .0 in
         record {
           some = omega arith;
           few = sweeps .few;
-          goes = record { leads = here-moves (swept .passed) (w .1) (w .2); in-range = here-range; live-above = here-live };
+          goes = record { leads = here-moves (swept .passed) (w .1) (w .2); keeps = here-keeps };
           parent = λ _. omega arith;
         }
 
 ----------------------------------------------------------------------------------------------------
 -- A run
 
+-- n nodes, and then some more
+ran-on : {t : Table} {sets : Sets} {count i : ℕ} {g : Going} {mid : Sets} {j : ℕ} {to : State}
+    → Goes t (rest t sets) i sets g mid → g ≡ On → Ran t mid (count + i) j to → Ran t sets count (i + j) to
+ran-on {g = g} goes e ran = record { counted = let q = ran .counted in omega arith; goes = goes-on (goes-as g On e goes .leads) (goes .keeps) (ran .goes) }
+
+-- a run that ended, and one that went on below the first nodes
+runs-ended : {t : Table} {sets : Sets} {count n share : ℕ} {to : State} → Ran t sets count n to → HasEnded (to .going) → n ≤ share → RunsOn t sets count share to
+runs-ended {n = n} {to = to} ran off h = record { many = n; few = h; whole = λ o. absurd (ended-off (to .going) off o); ran = ran }
+
+pub runs-whole : {t : Table} {sets : Sets} {count n share : ℕ} {to : State} → Ran t sets count n to → n ≡ share → RunsOn t sets count share to
+runs-whole {n = n} ran e = record { many = n; few = omega arith; whole = λ _. e; ran = ran }
+
 pub record Running (t : Table) (first : Sets) (counted end : ℕ) (sets : Sets) (count : ℕ) : Type 0 where
   pub many : ℕ
-  pub counted-is : count ≡ counted + many
+  pub ran : Ran t first counted many (record { going = On; sets = sets; count = count })
   pub few : count ≤ end
-  pub goes : Goes t (rest t first) many first On sets
   pub sound : Sound t sets
   pub parent : 0 < sets .chosen
 
+pub ran-none : (t : Table) (sets : Sets) (count : ℕ) → Ran t sets count 0 (record { going = On; sets = sets; count = count })
+ran-none t sets count = record { counted = sym (add-zero count); goes = record { leads = moves-none refl; keeps = keeps-same } }
+
 pub running-start : (t : Table) (first : Sets) (counted end : ℕ) → counted ≤ end → Sound t first → 0 < first .chosen → Running t first counted end first counted
-running-start t first counted end h sound some =
-    record {
-      many = 0;
-      counted-is = sym (add-zero counted);
-      few = h;
-      goes = record { leads = moves-none refl; in-range = λ r. r; live-above = λ f. f };
-      sound = sound;
-      parent = some;
-    }
+running-start t first counted end h sound some = record { many = 0; ran = ran-none t first counted; few = h; sound = sound; parent = some }
 
 module _ {t : Table} {first : Sets} {counted end : ℕ} {sets : Sets} {count : ℕ} (running : Running t first counted end sets count) where
-  -- the share is spent
+  counted-is : count ≡ counted + running .many
+  counted-is = running .ran .counted
+
   pub running-spent : (share : ℕ) → end ≡ counted + share → end ≤ count → RunsOn t first counted share (record { going = On; sets = sets; count = count })
-  running-spent share e h =
-      let q : count ≡ counted + running .many = running .counted-is in let f : count ≤ end = running .few in
-      record { many = running .many; few = omega arith; whole = λ _. omega arith; counted = q; goes = running .goes }
+  running-spent share e h = let q = counted-is in let f = running .few in runs-whole (running .ran) (omega arith)
 
   module _ (gone : Gone) (more : count < end) (advances : Advances t sets (end - count) gone) where
     pub running-fits : (0 < gone .passed) × (count + gone .passed ≤ end)
     running-fits = (advances .some, let h : gone .passed ≤ end - count = advances .few in omega arith)
 
-    all : Goes t (rest t first) (running .many + gone .passed) first (gone .going) (gone .sets)
-    all = goes-on (running .goes .leads) (running .goes .in-range) (running .goes .live-above) (advances .goes)
+    ran : (g : Going) → gone .going ≡ g → Ran t first counted (running .many + gone .passed) (record { going = g; sets = gone .sets; count = count + gone .passed })
+    ran g e =
+        let q = counted-is in
+        record { counted = omega arith; goes = goes-on (running .ran .goes .leads) (running .ran .goes .keeps) (goes-as (gone .going) g e (advances .goes)) }
 
     pub running-on : gone .going ≡ On → Running t first counted end (gone .sets) (count + gone .passed)
     running-on e =
-        record {
-          many = running .many + gone .passed;
-          counted-is = let q : count ≡ counted + running .many = running .counted-is in omega arith;
-          few = running-fits .1;
-          goes = goes-as (gone .going) On e all;
-          sound = record { in-range = advances .goes .in-range (running .sound .in-range); live-above = advances .goes .live-above (running .sound .live-above) };
-          parent = advances .parent e;
-        }
+        record { many = running .many + gone .passed; ran = ran On e; few = running-fits .1; sound = keeps-sound (advances .goes .keeps) (running .sound); parent = advances .parent e }
 
     pub running-ended : (g : Going) → gone .going ≡ g → HasEnded g → (share : ℕ) → end ≡ counted + share → RunsOn t first counted share (record { going = g; sets = gone .sets; count = count + gone .passed })
-    running-ended g e off share i =
-        let q : count ≡ counted + running .many = running .counted-is in let f = running-fits in
-        record { many = running .many + gone .passed; few = omega arith; whole = λ o. absurd (ended-off g off o); counted = omega arith; goes = goes-as (gone .going) g e all }
-
--- a share of none
-pub runs-none : (t : Table) (sets : Sets) (count share : ℕ) → share ≡ 0 → RunsOn t sets count share (record { going = On; sets = sets; count = count })
-runs-none t sets count share e =
-    record { many = 0; few = omega arith; whole = λ _. sym e; counted = sym (add-zero count); goes = record { leads = moves-none refl; in-range = λ r. r; live-above = λ f. f } }
+    running-ended g e off share i = let q = counted-is in let f = running-fits in runs-ended (ran g e) off (omega arith)
 
 -- the first node is looked at
 module _ {t : Table} {sets : Sets} {step : Step} (looks : Looks t sets step) (count share : ℕ) (some : 0 < share) where
   pub runs-one : (g : Going) → step .going ≡ g → HasEnded g → RunsOn t sets count share (record { going = g; sets = step .sets; count = count + 1 })
-  runs-one g e off = record { many = 1; few = some; whole = λ o. absurd (ended-off g off o); counted = refl; goes = goes-as (step .going) g e (looks .goes) }
-
-  next : step .going ≡ On → Goes t (rest t sets) 1 sets On (step .sets)
-  next e = goes-as (step .going) On e (looks .goes)
-
-  pub looks-sound : step .going ≡ On → Sound t sets → Sound t (step .sets)
-  looks-sound e sound = record { in-range = looks .goes .in-range (sound .in-range); live-above = looks .goes .live-above (sound .live-above) }
+  runs-one g e off = runs-ended (record { counted = refl; goes = goes-as (step .going) g e (looks .goes) }) off some
 
   pub runs-more : {state : State} → step .going ≡ On → RunsOn t (step .sets) (count + 1) (share - 1) state → RunsOn t sets count share state
   runs-more {state} e runs =
-      let f : runs .many ≤ share - 1 = runs .few in let q : state .count ≡ count + 1 + runs .many = runs .counted in
-      record {
-        many = 1 + runs .many;
-        few = omega arith;
-        whole = λ o. let w : runs .many ≡ share - 1 = runs .whole o in omega arith;
-        counted = omega arith;
-        goes = goes-on (next e .leads) (looks .goes .in-range) (looks .goes .live-above) (runs .goes);
-      }
+      let f : runs .many ≤ share - 1 = runs .few in
+      record { many = 1 + runs .many; few = omega arith; whole = λ o. let w : runs .many ≡ share - 1 = runs .whole o in omega arith; ran = ran-on (looks .goes) e (runs .ran) }
 
 -- a state that has ended, and one that goes on
 pub runs-stays : (t : Table) (state : State) (share : ℕ) (g : Going) → state .going ≡ g → HasEnded g → Runs t state share state
@@ -487,13 +473,13 @@ module _ (t : Table) (root : State) (fresh : Fresh root) where
     run = subst (λ (g : Going). RunsAs t g root b state) (fresh .going) (unfold Runs in runs)
 
     pub walked-few : state .sets .chosen ≤ t .variables
-    walked-few = run .goes .in-range (fresh-sound .in-range) .few
+    walked-few = run .ran .goes .keeps .in-range (fresh-sound .in-range) .few
 
     counted : state .count ≡ run .many
-    counted = let q : state .count ≡ root .count + run .many = run .counted in let z : root .count ≡ 0 = fresh .none-counted in omega arith
+    counted = let q : state .count ≡ root .count + run .many = run .ran .counted in let z : root .count ≡ 0 = fresh .none-counted in omega arith
 
     leads : (g : Going) → state .going ≡ g → Leads t (rest t (root .sets)) (run .many) g (state .sets)
-    leads g e = goes-as (state .going) g e (run .goes) .leads
+    leads g e = goes-as (state .going) g e (run .ran .goes) .leads
 
     first : (l : List Node) × (rest t (state .sets) ≡ nodeOf (state .sets) ∷ l)
     unfolding rest nodeOf
@@ -515,7 +501,7 @@ module _ (t : Table) (root : State) (fresh : Fresh root) where
 
     pub walked-over : state .going ≡ Over → nothing (state .count) ≡ outcome sameRole t b
     walked-over e =
-        sym (start ∙ scan-moves b 0 (leads Over e) (run .few) ∙ scan-end (ends sameRole t) (b - run .many) (0 + run .many) [] refl
+        sym (start ∙ scan-moves b 0 (leads Over e .0) (run .few) ∙ scan-end (ends sameRole t) (b - run .many) (0 + run .many) [] refl
         ∙ ap nothing (let z : 0 + run .many ≡ state .count = omega (arith, counted) in z))
 
     pub walked-spent : state .going ≡ On → budget (state .count) ≡ outcome sameRole t b

@@ -6,13 +6,16 @@
 --   LiveAboveAt t a k == no node above it is dead
 --   InRange t sets, LiveAbove t sets == the same of the node of `sets`
 --   Sound t sets     == both: what is so of every node that the walk comes to
---   Leads t l n going to == n nodes of the list l, and then the nodes from that of `to` on, or none; none of the n ends the walk, unless it is solved: then the last does, and is `to`
+--   Leads t l n going to == l is n nodes, none of which ends the walk, and then the nodes from that of `to` on. Where it is solved, the last of the n is
+--                       that of `to`, and ends the walk; where it is over, no node is left, and `to` is the root
+--   Keeps t from to  == what is so of the one node is so of the other; `KeepsAt`, of two lists
 --   Goes t l n from going to == it leads there, and what is so of `from` stays so
 --   HasParent going to == a node that the walk goes on to is not the root
 --   Steps t l n from step == both, of a step; from what comes after a node, `Next`; from a node that is examined, `Looks`
 --   deadAt t sets    == the node is dead
 --   Advances t sets most gone == a sweep over at most so many siblings, and the step after it
---   RunsOn t sets count share to == the node of `sets` moved on by `share` nodes, or fewer where the walk ends; count were examined before
+--   Ran t sets count n to == the node of `sets` moved on by n nodes; count were examined before
+--   RunsOn t sets count share to == the same by `share` nodes, or fewer where the walk ends
 --   Runs t from share to == the same of a state; one that has ended stays
 --   Fresh state      == the state at the root
 --   Given s c e v m last == s is a readable table with these counts, and `last` is its last set number
@@ -64,16 +67,22 @@ pub record Sound (t : Table) (sets : Sets) : Type 0 where
   pub in-range : InRange t sets
   pub live-above : LiveAbove t sets
 
+pub record KeepsAt (t : Table) (a₀ : List ℕ) (k₀ : ℕ) (a : List ℕ) (k : ℕ) : Type 0 where
+  pub in-range : InRangeAt t a₀ k₀ → InRangeAt t a k
+  pub live-above : LiveAboveAt t a₀ k₀ → LiveAboveAt t a k
+
+abbrev pub Keeps : Table → Sets → Sets → Type 0
+Keeps t from to = KeepsAt t (from .set) (from .chosen) (to .set) (to .chosen)
+
 -- where n nodes of the list l lead to
 abbrev pub Leads : Table → List Node → ℕ → Going → Sets → Type 0
 Leads t l n Solved to = (i : ℕ) × (n ≡ i + 1) × Moves (ends sameRole t) i l (rest t to) × (ends sameRole t (nodeOf to) ≡ true)
 Leads t l n On to = Moves (ends sameRole t) n l (rest t to)
-Leads t l n Over to = Moves (ends sameRole t) n l []
+Leads t l n Over to = Moves (ends sameRole t) n l [] × (to .chosen ≡ 0)
 
 pub record Goes (t : Table) (l : List Node) (n : ℕ) (from : Sets) (going : Going) (to : Sets) : Type 0 where
   pub leads : Leads t l n going to
-  pub in-range : InRange t from → InRange t to
-  pub live-above : LiveAbove t from → LiveAbove t to
+  pub keeps : Keeps t from to
 
 abbrev pub HasParent : Going → Sets → Type 0
 HasParent going to = going ≡ On → 0 < to .chosen
@@ -97,12 +106,15 @@ pub record Advances (t : Table) (sets : Sets) (most : ℕ) (gone : Gone) : Type 
   pub goes : Goes t (rest t sets) (gone .passed) sets (gone .going) (gone .sets)
   pub parent : HasParent (gone .going) (gone .sets)
 
+pub record Ran (t : Table) (sets : Sets) (count n : ℕ) (to : State) : Type 0 where
+  pub counted : to .count ≡ count + n
+  pub goes : Goes t (rest t sets) n sets (to .going) (to .sets)
+
 pub record RunsOn (t : Table) (sets : Sets) (count share : ℕ) (to : State) : Type 0 where
   pub many : ℕ
   pub few : many ≤ share
   pub whole : to .going ≡ On → many ≡ share
-  pub counted : to .count ≡ count + many
-  pub goes : Goes t (rest t sets) many sets (to .going) (to .sets)
+  pub ran : Ran t sets count many to
 
 abbrev pub RunsAs : Table → Going → State → ℕ → State → Type 0
 RunsAs t Solved from share to = to ≡ from

@@ -13,8 +13,8 @@ ghost use Rattle.order.specs.Given.{RowsGiven};
 ghost use Rattle.node.specs.Node.{Prepares};
 ghost use Rattle.level.specs.Level.{siblingOf, SweepGiven};
 ghost use Rattle.walk.specs.Step.{InRange, Sound, deadAt, Next, Looks, Advances, Runs, RunsOn, Given, Fresh, outcomeOf};
+use level::Halt;
 use level::Level;
-use level::Stop;
 use node::Sets;
 
 // Where a step leads: to the end of the walk, on to a node, or nowhere because no node is left.
@@ -168,7 +168,7 @@ fn advance(
     let passed = swept.passed;
     let end = swept.end;
     match end {
-        Stop::Live => {
+        Halt::Live => {
             let step = enter(v, here);
             let next = step.sets;
             let going = step.going;
@@ -178,7 +178,7 @@ fn advance(
                 passed,
             }
         }
-        Stop::Over => {
+        Halt::Over => {
             let step = next_node(here, last);
             let next = step.sets;
             let going = step.going;
@@ -188,7 +188,7 @@ fn advance(
                 passed,
             }
         }
-        Stop::Spent => Gone {
+        Halt::Spent => Gone {
             going: Going::On,
             sets: here,
             passed,

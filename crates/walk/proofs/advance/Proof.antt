@@ -1,5 +1,5 @@
 -- `walk::advance` meets its contract: one law for each end of the sweep.
-use mathlib.Core.Path.{refl, sym}
+use mathlib.Core.Path.{sym}
 use native.Mathlib.Omega.{arith}
 use Rattle.walk.proofs.Laws.{given-variables, advanced-live, advanced-over, advanced-spent}
 use borrow.Author.Needs.{needs}

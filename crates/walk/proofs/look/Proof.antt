@@ -3,7 +3,6 @@ use mathlib.Core.Path.{sym, _∙_}
 use native.Mathlib.Omega.{arith}
 use Rattle.walk.specs.Step.{deadAt}
 use Rattle.walk.proofs.Laws.{given-variables, given-chosen, given-node, looks-dead}
-use borrow.Author.Needs.{needs}
 use Rattle.walk.proofs.look.Statement.{statement}
 use Rattle.walk.proofs.look.Tie as tie
 

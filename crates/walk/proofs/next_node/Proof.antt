@@ -20,18 +20,18 @@ loop-holds : tie.Need-loop-holds Inv-loop μ-loop
 loop-holds c = (search needs, omega arith, omega arith, λ t e. climbs-start t _ _)
 
 returns : tie.Need-returns Inv-loop μ-loop
-returns c = λ t e. next-sibling t _ _ (c .before .loop-test .taken) (omega arith) _ e _ _ (c .before .before .loop .inv .3 t e) (c .if1 .taken)
+returns c = λ t e. next-sibling t _ _ _ _ (c .before .before .loop .inv .3 t e) (c .before .loop-test .taken) (omega arith) _ e (c .if1 .taken)
 
 loop-again : tie.Need-loop-again Inv-loop μ-loop
 loop-again c = (
   search needs,
   omega arith,
   omega arith,
-  λ t e. climbs-up t _ _ (c .before .loop-test .taken) (omega arith) _ e _ _ (c .before .before .loop .inv .3 t e) (c .if1 .left),
+  λ t e. climbs-up t _ _ _ _ (c .before .before .loop .inv .3 t e) (c .before .loop-test .taken) (omega arith) _ e (c .if1 .left),
 )
 
 returns-2 : tie.Need-returns-2 Inv-loop μ-loop
-returns-2 c = λ t e. next-none t _ _ _ _ (omega arith) (c .before .loop .inv .3 t e)
+returns-2 c = λ t e. next-none t _ _ _ _ (c .before .loop .inv .3 t e) (omega arith)
 
 pub next-node-spec : {M : Type 1} → statement M
 next-node-spec =

@@ -1,19 +1,19 @@
 -- `walk::run_on` meets its contract: a law for each place that the first node leads to.
+use mathlib.Core.Path.{sym}
 use native.Mathlib.Omega.{arith}
-use Prim.Native.Nat.{_<_}
 use Rattle.walk.specs.declared.Going.the-variants.{Solved, Over}
-use Rattle.walk.proofs.Laws.{runs-none, runs-one, runs-more, looks-sound}
+use Rattle.walk.proofs.Laws.{keeps-sound, ran-none, runs-whole, runs-one, runs-more}
 use borrow.Author.Needs.{needs}
 use Rattle.walk.proofs.run_on.Statement.{statement}
 use Rattle.walk.proofs.run_on.Tie as tie
 
 returns : tie.Need-returns
-returns c = runs-none _ _ _ _ (c .if1 .taken)
+returns c = runs-whole (ran-none _ _ _) (sym (c .if1 .taken))
 
 run-below-requires : tie.Need-run-below-requires
 run-below-requires c κs =
     (let p = c .before .before .before .before .before .before .before .before .before .before .before .before .before .before .before .before .before .pre in let look = c .before .before .before .before .before .before .before .before .before .before .before .before .before .before .look in let z = c .before .before .before .before .before .before .before .before .before .before .before .before .before .before .before .if1 .left in let e = c .before .before .before .before .before .before .before .before .before .before .before .enum-told3 .given .1 in
-    ((p .0, c .before .before .before .before .before .before .before .before .before .before .prepare .ensures .0, c .before .before .before .before .before .before .before .before .before .before .prepare .ensures .1), (looks-sound (look .ensures) 0 1 (omega arith) e (p .1), look .ensures .parent e, omega arith)))
+    ((p .0, c .before .before .before .before .before .before .before .before .before .before .prepare .ensures .0, c .before .before .before .before .before .before .before .before .before .before .prepare .ensures .1), (keeps-sound (look .ensures .goes .keeps) (p .1), look .ensures .parent e, omega arith)))
 
 returns-2 : tie.Need-returns-2
 returns-2 c = (let z = c .before .before .before .before .if1 .left in runs-one (c .before .before .before .look .ensures) _ _ (omega arith) Solved (c .enum-told .given .1) tt)

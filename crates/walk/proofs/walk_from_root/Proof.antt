@@ -1,5 +1,4 @@
 -- `walk::walk_from_root` meets its contract: it is a run from the root, with the budget as its share.
-use mathlib.Core.Path.{sym}
 use native.Mathlib.Omega.{arith}
 use Rattle.walk.specs.Step.{outcomeOf}
 use Rattle.walk.proofs.Laws.{given-variables, fresh-sound, walked-few, walked-found, walked-over, walked-spent}

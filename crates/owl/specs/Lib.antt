@@ -1,0 +1,12 @@
+pub mod Once
+pub mod Tree
+pub mod Naming
+pub mod Meaning
+pub mod Flattening
+pub mod OnceLaws
+pub mod NamingLaws
+pub mod FlatLaws
+pub mod ExtensionLaws
+pub mod FlatDeclared
+pub mod FlatteningLaws
+pub mod Instances

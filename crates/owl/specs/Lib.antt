@@ -10,3 +10,10 @@ pub mod ExtensionLaws
 pub mod FlatDeclared
 pub mod FlatteningLaws
 pub mod Instances
+pub mod Token
+pub mod Written
+pub mod Grammar
+pub mod SlotLaws
+pub mod GrammarLaws
+pub mod TokenLaws
+pub mod TextLaws

@@ -19,7 +19,7 @@ use Rattle.el.specs.Description.{Description, meet, some, below}
 use Rattle.el.specs.Table.{Row}
 use Rattle.el.specs.Meaning.{Substitution}
 use Rattle.owl.specs.Flattening.{Concept, topC, constantC, variableC, bothC, someC, Statement, own, fresh, freshOf}
-use Rattle.owl.specs.FlatLaws.{conceptUnder, oneWay, statementHolds, Same, same-refl, OwnGood, Good, pair, GoodAll}
+use Rattle.owl.specs.FlatLaws.{conceptUnder, oneWay, statementHolds, Same, same-refl, OwnGood, Good, GoodAll}
 
 abbrev pub Within : ℕ → ℕ → ℕ → Concept → Type 0
 Within c r v topC = Unit {0}

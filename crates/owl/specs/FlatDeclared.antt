@@ -2,17 +2,16 @@
 --
 --   concept-within, statements-within == a declared class's numbers are within the counts
 --   table-declared                    == then the table is declared
-use mathlib.Core.Path.{_≡_, refl, subst}
 use mathlib.Core.Bool.{Bool, true, false, _&&_, _||_}
-use mathlib.Core.List.{List, [], _∷_, _++_}
+use mathlib.Core.List.{List, [], _∷_}
 use Prim.Native.Nat.{ℕ, _+_, _≤_, _<_}
 use native.Mathlib.Omega.{arith}
 use lib.Dec.{T, ltb, lt→ltb}
 use lib.ListN.{length}
 use Rattle.el.specs.Test.{everyOf}
 use Rattle.el.specs.TestLaws.{and-make, and-left, and-right}
-use Rattle.el.specs.Table.{Filler, topF, constantF, variableF, Entry, constant, restriction, variable, Row, Line, Table, fillerDeclared, rowDeclared, entryDeclared, lineDeclared, declared}
-use Rattle.owl.specs.Once.{isAmong, place, once}
+use Rattle.el.specs.Table.{Entry, variable, Row, Table, fillerDeclared, rowDeclared, entryDeclared, lineDeclared, declared}
+use Rattle.owl.specs.Once.{isAmong, place}
 use Rattle.owl.specs.OnceLaws.{every-join, every-first, every-second, place-lt, once-all, once-every}
 use Rattle.owl.specs.Tree.{Name, Class, named, intersectionOf, someValuesFrom, Classes, last, more, Axiom, subClassOf, equivalentClasses}
 use Rattle.owl.specs.Naming.{sameName, isThing, isOpen, Names, constantNumber, openNumber, roleNumber, classKnown, roleKnown, allIn, allOf, axiomKnown}

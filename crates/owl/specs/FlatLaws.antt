@@ -17,7 +17,7 @@ use Rattle.el.specs.Test.{everyOf}
 use Rattle.el.specs.TestLaws.{and-make, and-left, and-right}
 use Rattle.el.specs.Description.{Description, top, name, meet, some, below}
 use Rattle.el.specs.OrderLaws.{below-left, below-right, below-refl, below-trans}
-use Rattle.el.specs.Table.{Filler, topF, constantF, variableF, Entry, constant, restriction, variable, Row, Line, rowAt}
+use Rattle.el.specs.Table.{Filler, topF, constantF, variableF, Entry, variable, Row, Line, rowAt}
 use Rattle.el.specs.Meaning.{Substitution, fillerUnder, rowUnder, entryUnder, leftUnder, holds}
 use Rattle.owl.specs.Once.{isAmong, place}
 use Rattle.owl.specs.OnceLaws.{every-join, every-first, every-second, place-at}

@@ -22,7 +22,7 @@ use lib.Dec.{eqb}
 use lib.ListN.{length}
 use Rattle.el.specs.Table.{Filler, topF, constantF, variableF, Entry, constant, restriction, variable, Row, Line, Table}
 use Rattle.owl.specs.Once.{place, once}
-use Rattle.owl.specs.Tree.{Name, Class, named, intersectionOf, someValuesFrom, Classes, last, more, Axiom, subClassOf, equivalentClasses, Item, File, axiomsOf}
+use Rattle.owl.specs.Tree.{Name, Class, named, intersectionOf, someValuesFrom, Classes, last, more, Axiom, subClassOf, equivalentClasses, File, axiomsOf}
 use Rattle.owl.specs.Naming.{isThing, isOpen, Names, namesOf, constantNumber, openNumber, roleNumber}
 
 pub data Concept : Type 0 where

@@ -7,7 +7,7 @@
 --   flattening       == some substitution makes all axioms hold exactly if some substitution makes every line true
 --   file-solvable    == and so exactly if some acyclic assignment solves the table
 --   flattening-keeps == the extension says of the open names what it said before
-use mathlib.Core.Path.{_≡_, refl, sym, ap, ap₂, subst, _∙_}
+use mathlib.Core.Path.{_≡_, refl, sym, ap, ap₂, subst}
 use mathlib.Core.Bool.{Bool, true, false, _&&_}
 use mathlib.Core.Logic.{_↔_}
 use mathlib.Core.List.{List, [], _∷_}
@@ -16,7 +16,7 @@ use lib.Dec.{T}
 use lib.ListN.{length}
 use Rattle.el.specs.Test.{everyOf}
 use Rattle.el.specs.Description.{Description, top, name, meet, some, below}
-use Rattle.el.specs.Table.{Row, Table, declared}
+use Rattle.el.specs.Table.{Row, declared}
 use Rattle.el.specs.Meaning.{Substitution, holds, makes}
 use Rattle.el.specs.Locality.{Unifiable, Solvable}
 use Rattle.el.specs.LocalityLaws.{local-iff}

@@ -8,17 +8,17 @@
 --   extends                   == where the machine has not stopped, some continuation is a written form
 --   spoiled                   == where it has, none is
 use mathlib.Core.Path.{_≡_, refl, sym, ap, subst, _∙_}
-use mathlib.Core.Bool.{Bool, true, false, _&&_, _||_}
+use mathlib.Core.Bool.{Bool, true, false, _||_}
 use mathlib.Core.Logic.{_⊎_, inl, inr}
 use mathlib.Core.List.{List, [], _∷_, _++_}
 use Prim.Native.Nat.{ℕ, _≤_, _<_}
 use native.Mathlib.Omega.{arith}
-use lib.Dec.{T, eqb, eqb→eq, eqb-refl, ltb, ltb→lt, nltb→le, lit<, lit≤}
-use Rattle.el.specs.TestLaws.{is-true, or-cases, and-left, and-right}
-use Rattle.owl.specs.Tree.{Name, short, full, Class, named, intersectionOf, someValuesFrom, Classes, last, more, Axiom, subClassOf, equivalentClasses, Entity, class, objectProperty, Item, declaration, stated, Head, noName, oneName, twoNames, PrefixLine, File}
-use Rattle.owl.specs.Written.{Token, sign, text, kind, ‹left›, ‹right›, ‹equals›, ‹Prefix›, ‹Ontology›, ‹Declaration›, ‹Class›, ‹ObjectProperty›, ‹SubClassOf›, ‹EquivalentClasses›, ‹ObjectIntersectionOf›, ‹ObjectSomeValuesFrom›, ‹name›, written, writtens, writtenAxiom, writtenEntity, writtenItem, writtenItems, writtenHead, writtenPrefixes, writtenFile}
+use lib.Dec.{T, eqb, eqb→eq, ltb, ltb→lt, nltb→le, lit<, lit≤}
+use Rattle.el.specs.TestLaws.{is-true, or-cases}
+use Rattle.owl.specs.Tree.{Name, short, full, Class, named, intersectionOf, someValuesFrom, Classes, last, more, subClassOf, equivalentClasses, Entity, class, objectProperty, Item, declaration, stated, Head, noName, oneName, twoNames, PrefixLine, File}
+use Rattle.owl.specs.Written.{Token, sign, text, kind, ‹left›, ‹right›, ‹equals›, ‹Prefix›, ‹Ontology›, ‹Declaration›, ‹Class›, ‹ObjectProperty›, ‹SubClassOf›, ‹EquivalentClasses›, ‹ObjectIntersectionOf›, ‹ObjectSomeValuesFrom›, ‹name›, written, writtens, writtenEntity, writtenItem, writtenItems, writtenHead, writtenPrefixes, writtenFile}
 use Rattle.owl.specs.Grammar.{Slot, leftS, rightS, equalsS, labelS, targetS, nameS, roleS, entityS, ontologyS, classS, classesS, noThirdS, headS, versionS, itemsS, prefixesS, insides, inside, Move, stop, on, isName, beginsClass, beginsItem, unlisted, takes, takesOr, takesMore, expect, mayEnd, start, walk, Begins}
-use Rattle.owl.specs.SlotLaws.{stop-on, on-inj, taken, takenOr, takenMore, notThird, fit, fit-walk, ending, can-end}
+use Rattle.owl.specs.SlotLaws.{stop-on, on-inj, taken, takenOr, takenMore, notThird, fit-walk, ending, can-end}
 
 ----------------------------------------------------------------------------------------------------
 -- A token is told by its kind

@@ -7,9 +7,9 @@
 --   round-not-joined == it cannot: no substitution makes it hold
 --   odd-table        == a collapsing filler keeps its variable, a line that vanishes keeps its row, owl:Thing has no number
 use mathlib.Core.Path.{_≡_, refl}
-use mathlib.Core.Bool.{Bool, true, false, not}
+use mathlib.Core.Bool.{true, not}
 use mathlib.Core.List.{List, [], _∷_}
-use Prim.Native.Nat.{ℕ, suc, _^_}
+use Prim.Native.Nat.{ℕ, suc}
 use native.Mathlib.Omega.{arith}
 use lib.Dec.{T, ltb, ltb→lt, T-not}
 use lib.ListN.{length}
@@ -17,13 +17,13 @@ use Rattle.el.specs.Test.{anyOf, anyBelow, allBelow, everyOf, bit}
 use Rattle.el.specs.TestLaws.{and-left, and-right, allBelow-at}
 use Rattle.el.specs.Description.{sameRole}
 use Rattle.el.specs.OrderLaws.{sameRole-refl, sameRole-trans}
-use Rattle.el.specs.Table.{Filler, topF, constantF, variableF, Entry, constant, restriction, variable, Row, Line, Table, rowAt, atoms}
+use Rattle.el.specs.Table.{Filler, constantF, variableF, Entry, constant, restriction, variable, Row, Line, Table, rowAt, atoms}
 use Rattle.el.specs.Meaning.{holds, makes}
 use Rattle.el.specs.Assignment.{Assignment, setOf, IsAssignment, depends, path, reaches, acyclic, atomUnder, conjoin, setUnder, inducedTo, induced, solves}
 use Rattle.el.specs.Locality.{Solvable}
 use Rattle.el.specs.LocalityLaws.{solves-means}
 use Rattle.owl.specs.Once.{isAmong, place, once}
-use Rattle.owl.specs.Tree.{Name, short, Class, named, intersectionOf, someValuesFrom, last, Axiom, subClassOf, equivalentClasses, class, objectProperty, declaration, stated, noName, File, axiomsOf, classesOf, propertiesOf}
+use Rattle.owl.specs.Tree.{Name, short, named, intersectionOf, someValuesFrom, last, subClassOf, equivalentClasses, class, objectProperty, declaration, stated, noName, File, axiomsOf, classesOf, propertiesOf}
 use Rattle.owl.specs.Naming.{sameBytes, beginsWith, thingBytes, openBytes, keep, namesOf, constantNumber, openNumber, roleNumber, classKnown, roleKnown, allKnown}
 use Rattle.owl.specs.Meaning.{Joinable}
 use Rattle.owl.specs.Flattening.{nameOf, statementsOf, sameRow, rowsAll, linesAll, tableOf, flatTable}

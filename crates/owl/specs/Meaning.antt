@@ -6,7 +6,6 @@
 --   fileHolds under f σ    == σ makes all axioms of the file f hold
 --   Joinable under f       == some substitution does
 use mathlib.Core.Bool.{Bool, true, false, _&&_}
-use mathlib.Core.List.{List}
 use Prim.Native.Nat.{ℕ}
 use lib.Dec.{T}
 use Rattle.el.specs.Test.{everyOf}

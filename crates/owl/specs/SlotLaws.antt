@@ -15,8 +15,8 @@ use lib.Dec.{T, eqb, eqb→eq}
 use lib.ListN.{getD}
 use Rattle.el.specs.Test.{everyOf}
 use Rattle.el.specs.TestLaws.{and-make, and-left, and-right}
-use Rattle.owl.specs.Written.{Token, sign, text, kind, ‹left›, ‹right›, ‹equals›, ‹Ontology›, ‹Class›}
-use Rattle.owl.specs.Grammar.{Slot, leftS, rightS, equalsS, labelS, targetS, nameS, roleS, entityS, ontologyS, classS, classesS, noThirdS, headS, versionS, itemsS, prefixesS, insides, inside, Move, stop, on, isName, beginsClass, beginsItem, unlisted, takes, takesOr, takesMore, expect, empties, mayEnd, walk}
+use Rattle.owl.specs.Written.{Token, text, kind, ‹left›, ‹right›, ‹equals›, ‹Ontology›, ‹Class›}
+use Rattle.owl.specs.Grammar.{Slot, leftS, rightS, equalsS, labelS, targetS, nameS, roleS, entityS, ontologyS, classS, classesS, noThirdS, headS, versionS, itemsS, prefixesS, insides, inside, Move, stop, on, isName, beginsClass, beginsItem, unlisted, takes, takesOr, takesMore, expect, walk}
 
 ----------------------------------------------------------------------------------------------------
 -- Numbers of slots

@@ -8,15 +8,15 @@
 --   refused-means    == else the place is that of the first token that spoils it, or its length where the end does
 --   first-spoiled    == the token that spoils it, if there is one, is the one whose place is given
 use mathlib.Core.Path.{_≡_, refl, sym, ap, subst, _∙_}
-use mathlib.Core.Bool.{Bool, true, false, _&&_, _||_, true≢false}
+use mathlib.Core.Bool.{Bool, true, false, _||_, true≢false}
 use mathlib.Core.Logic.{_⊎_, inl, inr, _↔_}
 use mathlib.Core.List.{List, [], _∷_, _++_}
 use Prim.Native.Nat.{ℕ, zero, suc, _+_, _≤_, _<_}
 use native.Mathlib.Omega.{arith}
 use native.Mathlib.Decide.{decLt}
-use lib.Dec.{T, eqb, eqb→eq, ltb}
+use lib.Dec.{T, eqb, ltb}
 use lib.ListN.{length, getD, take, drop, take-append-drop, List·getD-eq-default}
-use borrow.Author.Tests.{eqb-true, eqb-false}
+use borrow.Author.Tests.{eqb-false}
 use Rattle.el.specs.TestLaws.{or-cases, and-left, and-right}
 use Rattle.owl.specs.Tree.{File}
 use Rattle.owl.specs.Token.{placeAt, kindAt, endAt}

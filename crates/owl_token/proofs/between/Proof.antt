@@ -1,0 +1,41 @@
+-- The table is the definition's.
+use native.Mathlib.Omega.{arith}
+use Rattle.owl.specs.Token.{betweens}
+use Rattle.owl_token.proofs.RunLaws as laws
+use borrow.Author.Needs.{needs}
+use Rattle.owl_token.proofs.between.Statement.{statement}
+use Rattle.owl_token.proofs.between.Tie as tie
+
+wide-requires : tie.Need-wide-requires
+wide-requires c κs = search needs
+
+mul-result : tie.Need-mul-result
+mul-result c = search needs
+
+byte-class-requires : tie.Need-byte-class-requires
+byte-class-requires c κs = search needs
+
+wide-requires-2 : tie.Need-wide-requires-2
+wide-requires-2 c κs = search needs
+
+add-result : tie.Need-add-result
+add-result c = search needs
+
+array-read-result : tie.Need-array-read-result
+array-read-result c = search needs
+
+returns : tie.Need-returns
+unfolding betweens
+returns c = laws.between-right _ _ _ _ _ (c .before .before .wide .ensures) (c .wide2 .ensures) (c .before .byte-class .ensures .0) (omega arith)
+
+pub between-spec : {M : Type 1} → statement M
+between-spec =
+    tie.close
+    (tie.spec
+    wide-requires
+    mul-result
+    byte-class-requires
+    wide-requires-2
+    add-result
+    array-read-result
+    returns)

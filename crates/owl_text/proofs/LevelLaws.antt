@@ -21,7 +21,7 @@ use Rattle.owl.specs.Token.{kindOf, placeAt, kindAt, endAt}
 use Rattle.owl.specs.TokenLaws.{kind-range}
 use Rattle.owl.specs.Grammar.{Slot, leftS, rightS, equalsS, labelS, targetS, nameS, roleS, entityS, ontologyS, classS, classesS, noThirdS, headS, versionS, itemsS, prefixesS, insides, inside, Move, stop, on, isName, beginsClass, beginsItem, unlisted, takes, takesOr, takesMore, expect, mayEnd, Verdict, verdict, check, checked}
 use Rattle.owl.specs.SlotLaws.{slotNumber, slot-means}
-use Rattle.owl_text.specs.Levels.{states, slotsOf, moves, next, opener, inners, inner, run}
+use Rattle.owl_text.specs.Levels.{states, slotsOf, columns, column, moves, next, opener, inners, inner, run}
 
 ----------------------------------------------------------------------------------------------------
 -- What stands behind a construct does not matter
@@ -111,7 +111,7 @@ sameSlots-means (s ∷ ss) (u ∷ us) t =
     (sameSlots-means ss us (and-right (eqb (slotNumber s) (slotNumber u)) (sameSlots ss us) t))
 
 abbrev sameMove : Move → ℕ → Bool
-sameMove (stop n) x = eqb x (100 + n)
+sameMove (stop n) x = eqb x (80 + n)
 sameMove (on us) x = ltb x 28 && sameSlots us (slotsOf x)
 
 both-below : (f : ℕ → ℕ → Bool) (m n q k : ℕ) → T (allBelow m (λ q. allBelow n (λ k. f q k))) → q < m → k < n → T (f q k)
@@ -119,17 +119,17 @@ both-below f m n q k t h l = allBelow-at n k (λ k. f q k) (allBelow-at m q (λ 
 
 -- each entry is the move that the slots make
 entries-right : T (allBelow 28 (λ q. allBelow 18 (λ k. sameMove (expect k (slotsOf q)) (next q k))))
-unfolding allBelow slotsOf states next moves expect takes takesOr takesMore isName beginsClass beginsItem unlisted
+unfolding allBelow slotsOf states next column columns moves expect takes takesOr takesMore isName beginsClass beginsItem unlisted
 entries-right = tt
 
 abbrev MoveRight : ℕ → ℕ → Move → Type 0
-MoveRight q k m = ((n : ℕ) × (m ≡ stop n) × (next q k ≡ 100 + n)) ⊎ ((next q k < 28) × (m ≡ on (slotsOf (next q k))))
+MoveRight q k m = ((n : ℕ) × (m ≡ stop n) × (next q k ≡ 80 + n)) ⊎ ((next q k < 28) × (m ≡ on (slotsOf (next q k))))
 
 move-right : (q k : ℕ) → q < 28 → k < 18 → MoveRight q k (expect k (slotsOf q))
 move-right q k h l = go (expect k (slotsOf q)) (both-below (λ q k. sameMove (expect k (slotsOf q)) (next q k)) 28 18 q k entries-right h l)
   where
     go : (m : Move) → T (sameMove m (next q k)) → MoveRight q k m
-    go (stop n) t = inl (n, refl, eqb→eq (next q k) (100 + n) t)
+    go (stop n) t = inl (n, refl, eqb→eq (next q k) (80 + n) t)
     go (on us) t =
         inr (
           ltb→lt (next q k) 28 (and-left (ltb (next q k) 28) (sameSlots us (slotsOf (next q k))) t),
@@ -185,7 +185,7 @@ end-right q h = sameBool-means (mayEnd (slotsOf q)) (eqb q 1) (allBelow-at 28 q 
 
 -- a token other than `)` stays inside a construct, or outside of all
 sides-right : T (allBelow 28 (λ q. allBelow 18 (λ k. not (ltb (next q k) 28) || (eqb k 2 || sameBool (ltb q 2) (ltb (next q k) 2)))))
-unfolding allBelow next moves
+unfolding allBelow next column columns moves
 sides-right = tt
 
 side-right : (q k : ℕ) → q < 28 → k < 18 → next q k < 28 → (k ≡ 2 → ⊥) → ltb q 2 ≡ ltb (next q k) 2
@@ -200,7 +200,7 @@ side-right q k h l m n =
 
 -- `)` ends a construct, and stands in one
 closes-right : T (allBelow 28 (λ q. not (ltb (next q 2) 28) || (eqb (next q 2) 1 && leb 2 q)))
-unfolding allBelow next moves
+unfolding allBelow next column columns moves
 closes-right = tt
 
 close-right : (q : ℕ) → q < 28 → next q 2 < 28 → (next q 2 ≡ 1) × (2 ≤ q)
@@ -274,8 +274,8 @@ module _ (s : List ℕ) where
   -- both machines after a token of kind k
   abbrev numbers : ℕ → ℕ → ℕ → ℕ → List ℕ → Verdict
   numbers f at k q st =
-      elim (ltb 99 (next q k)) [
-        | true ↦ verdict (next q k - 100) (placeAt s at)
+      elim (ltb 79 (next q k)) [
+        | true ↦ verdict (next q k - 80) (placeAt s at)
         | false ↦ elim (opener k) [
           | true ↦ run s f (endAt s at) (inner k) (next q k ∷ st)
           | false ↦ elim (eqb k 2) [
@@ -315,10 +315,10 @@ module _ (s : List ℕ) where
     where
       go : MoveRight q k (expect k (slotsOf q)) → numbers f at k q st ≡ slots f at k (expect k (flat q st))
       go (inl (n, e, x)) =
-          let w : 99 < next q k = omega arith in
-          let z : next q k - 100 ≡ n = omega arith in
+          let w : 79 < next q k = omega arith in
+          let z : next q k - 80 ≡ n = omega arith in
           ap (λ (b : Bool). elim b [
-            | true ↦ verdict (next q k - 100) (placeAt s at)
+            | true ↦ verdict (next q k - 80) (placeAt s at)
             | false ↦ elim (opener k) [
               | true ↦ run s f (endAt s at) (inner k) (next q k ∷ st)
               | false ↦ elim (eqb k 2) [
@@ -326,13 +326,13 @@ module _ (s : List ℕ) where
                 | false ↦ run s f (endAt s at) (next q k) st
               ]
             ]
-          ]) (lt-ltb 99 (next q k) w)
+          ]) (lt-ltb 79 (next q k) w)
           ∙ ap (λ (j : ℕ). verdict j (placeAt s at)) z
           ∙ ap (slots f at k) (sym (stop-flat q k n st h e))
       go (inr (m, e)) =
-          let w : next q k ≤ 99 = omega arith in
+          let w : next q k ≤ 79 = omega arith in
           ap (λ (b : Bool). elim b [
-            | true ↦ verdict (next q k - 100) (placeAt s at)
+            | true ↦ verdict (next q k - 80) (placeAt s at)
             | false ↦ elim (opener k) [
               | true ↦ run s f (endAt s at) (inner k) (next q k ∷ st)
               | false ↦ elim (eqb k 2) [
@@ -340,7 +340,7 @@ module _ (s : List ℕ) where
                 | false ↦ run s f (endAt s at) (next q k) st
               ]
             ]
-          ]) (le-ltb 99 (next q k) w)
+          ]) (le-ltb 79 (next q k) w)
           ∙ goes-on f at k q st ih h l m (opener k) (eqb k 2) refl refl
           ∙ ap (slots f at k) (sym (on-flat q k (next q k) st h e))
 

@@ -70,7 +70,7 @@ Moves k n st p ps =
     ⊎ ((opener k ≡ false) × (k ≡ 2 → ⊥) × (p ≡ n) × (ps ≡ st)))
 
 abbrev pub Step : List ℕ → ℕ → ℕ → List ℕ → ℕ → List ℕ → Type 0
-Step s at q st p ps = (kindAt s at ≡ 0 → ⊥) × (next q (kindAt s at) ≤ 99) × Moves (kindAt s at) (next q (kindAt s at)) st p ps
+Step s at q st p ps = (kindAt s at ≡ 0 → ⊥) × (next q (kindAt s at) ≤ 79) × Moves (kindAt s at) (next q (kindAt s at)) st p ps
 
 abbrev pub Leads : List ℕ → ℕ → ℕ → ℕ → List ℕ → ℕ → ℕ → List ℕ → Type 0
 Leads s zero at q st at′ q′ st′ = (at ≡ at′) × (q ≡ q′) × (st ≡ st′)
@@ -94,25 +94,25 @@ module _ (s : List ℕ) (f at q : ℕ) where
   unfolding run
   run-short st h e = rw (eq-eqb (kindAt s at) 0 h, ne-eqb q 1 e, run)
 
-  run-bad : (st : List ℕ) → (kindAt s at ≡ 0 → ⊥) → 99 < next q (kindAt s at) → run s (suc f) at q st ≡ verdict (next q (kindAt s at) - 100) (placeAt s at)
+  run-bad : (st : List ℕ) → (kindAt s at ≡ 0 → ⊥) → 79 < next q (kindAt s at) → run s (suc f) at q st ≡ verdict (next q (kindAt s at) - 80) (placeAt s at)
   unfolding run
-  run-bad st h e = rw (ne-eqb (kindAt s at) 0 h, lt-ltb 99 (next q (kindAt s at)) e, run)
+  run-bad st h e = rw (ne-eqb (kindAt s at) 0 h, lt-ltb 79 (next q (kindAt s at)) e, run)
 
-  run-over : (kindAt s at ≡ 0 → ⊥) → next q (kindAt s at) ≤ 99 → opener (kindAt s at) ≡ false → kindAt s at ≡ 2 → run s (suc f) at q [] ≡ verdict 10 (placeAt s at)
+  run-over : (kindAt s at ≡ 0 → ⊥) → next q (kindAt s at) ≤ 79 → opener (kindAt s at) ≡ false → kindAt s at ≡ 2 → run s (suc f) at q [] ≡ verdict 10 (placeAt s at)
   unfolding run
-  run-over h e o c = rw (ne-eqb (kindAt s at) 0 h, le-ltb 99 (next q (kindAt s at)) e, o, eq-eqb (kindAt s at) 2 c, run)
+  run-over h e o c = rw (ne-eqb (kindAt s at) 0 h, le-ltb 79 (next q (kindAt s at)) e, o, eq-eqb (kindAt s at) 2 c, run)
 
-  run-open : (st : List ℕ) → (kindAt s at ≡ 0 → ⊥) → next q (kindAt s at) ≤ 99 → opener (kindAt s at) ≡ true → run s (suc f) at q st ≡ run s f (endAt s at) (inner (kindAt s at)) (next q (kindAt s at) ∷ st)
+  run-open : (st : List ℕ) → (kindAt s at ≡ 0 → ⊥) → next q (kindAt s at) ≤ 79 → opener (kindAt s at) ≡ true → run s (suc f) at q st ≡ run s f (endAt s at) (inner (kindAt s at)) (next q (kindAt s at) ∷ st)
   unfolding run
-  run-open st h e o = rw (ne-eqb (kindAt s at) 0 h, le-ltb 99 (next q (kindAt s at)) e, o, run)
+  run-open st h e o = rw (ne-eqb (kindAt s at) 0 h, le-ltb 79 (next q (kindAt s at)) e, o, run)
 
-  run-close : (p : ℕ) (ps : List ℕ) → (kindAt s at ≡ 0 → ⊥) → next q (kindAt s at) ≤ 99 → opener (kindAt s at) ≡ false → kindAt s at ≡ 2 → run s (suc f) at q (p ∷ ps) ≡ run s f (endAt s at) p ps
+  run-close : (p : ℕ) (ps : List ℕ) → (kindAt s at ≡ 0 → ⊥) → next q (kindAt s at) ≤ 79 → opener (kindAt s at) ≡ false → kindAt s at ≡ 2 → run s (suc f) at q (p ∷ ps) ≡ run s f (endAt s at) p ps
   unfolding run
-  run-close p ps h e o c = rw (ne-eqb (kindAt s at) 0 h, le-ltb 99 (next q (kindAt s at)) e, o, eq-eqb (kindAt s at) 2 c, run)
+  run-close p ps h e o c = rw (ne-eqb (kindAt s at) 0 h, le-ltb 79 (next q (kindAt s at)) e, o, eq-eqb (kindAt s at) 2 c, run)
 
-  run-plain : (st : List ℕ) → (kindAt s at ≡ 0 → ⊥) → next q (kindAt s at) ≤ 99 → opener (kindAt s at) ≡ false → (kindAt s at ≡ 2 → ⊥) → run s (suc f) at q st ≡ run s f (endAt s at) (next q (kindAt s at)) st
+  run-plain : (st : List ℕ) → (kindAt s at ≡ 0 → ⊥) → next q (kindAt s at) ≤ 79 → opener (kindAt s at) ≡ false → (kindAt s at ≡ 2 → ⊥) → run s (suc f) at q st ≡ run s f (endAt s at) (next q (kindAt s at)) st
   unfolding run
-  run-plain st h e o c = rw (ne-eqb (kindAt s at) 0 h, le-ltb 99 (next q (kindAt s at)) e, o, ne-eqb (kindAt s at) 2 c, run)
+  run-plain st h e o c = rw (ne-eqb (kindAt s at) 0 h, le-ltb 79 (next q (kindAt s at)) e, o, ne-eqb (kindAt s at) 2 c, run)
 
   run-step : (st : List ℕ) (p : ℕ) (ps : List ℕ) → Step s at q st p ps → run s (suc f) at q st ≡ run s f (endAt s at) p ps
   run-step st p ps h = go (h .2)
@@ -292,18 +292,18 @@ module _ (s : List ℕ) (at q depth k : ℕ) (S : State s at q depth) (e : k ≡
     pub next-here : m ≡ next q (kindAt s at)
     next-here = g ∙ ap (next q) e
 
-    pub says-bad : (n p : ℕ) → n ≡ m - 100 → p ≡ placeAt s at → 99 < m → Says s n p
+    pub says-bad : (n p : ℕ) → n ≡ m - 80 → p ≡ placeAt s at → 79 < m → Says s n p
     says-bad n p c d l =
-        let w : 99 < next q (kindAt s at) = subst (λ (x : ℕ). 99 < x) next-here l in
-        let r = says s (next q (kindAt s at) - 100) (placeAt s at) (begun ∙ run-bad s (length s - S .0) at q (S .1) here w) in
-        (c ∙ ap (λ (x : ℕ). x - 100) next-here ∙ r .0, d ∙ r .1)
+        let w : 79 < next q (kindAt s at) = subst (λ (x : ℕ). 79 < x) next-here l in
+        let r = says s (next q (kindAt s at) - 80) (placeAt s at) (begun ∙ run-bad s (length s - S .0) at q (S .1) here w) in
+        (c ∙ ap (λ (x : ℕ). x - 80) next-here ∙ r .0, d ∙ r .1)
 
     pub goes : (x : ℕ) → x ≡ endAt s at → at < x
     goes x d = let a : at < endAt s at = progress s at (more s at (S .2) here) in omega arith
 
-    module _ (f : m ≤ 99) where
-      pub free : next q (kindAt s at) ≤ 99
-      free = subst (λ (x : ℕ). x ≤ 99) next-here f
+    module _ (f : m ≤ 79) where
+      pub free : next q (kindAt s at) ≤ 79
+      free = subst (λ (x : ℕ). x ≤ 79) next-here f
 
       pub says-over : (p : ℕ) → p ≡ placeAt s at → opener k ≡ false → k ≡ 2 → depth ≡ 0 → Says s 10 p
       says-over p d o c z =

@@ -1,36 +1,43 @@
 -- Laws of the small functions: what stands in the tables, and what is in the window.
 --
---   next-over, next-in                == the table of moves
+--   column-in, next-over, next-in              == the table of moves
 --   opener-small, opener-rest         == the kinds of the listed words
 --   inner-over, inner-in              == the table of inner states
 --   window-below, window-above, window-in == a level is from lo to high, or is not
 --   opening-none, opening-at          == a token opens a level, or does not
 use mathlib.Core.Path.{_≡_, ap, ap₂, sym, _∙_}
 use mathlib.Core.Bool.{Bool, true, false, _&&_}
-use Prim.Native.Nat.{ℕ, _+_, _*_, _≤_, _<_}
+use mathlib.Core.List.{List, []}
+use Prim.Native.Nat.{ℕ, _≤_, _<_}
 use native.Mathlib.Omega.{arith}
 use lib.Dec.{eqb, eqb→eq, leb, ltb, ltb→lt}
 use lib.ListN.{getD, List·getD-eq-default}
 use borrow.Author.Tests.{lt-ltb, le-ltb, le-leb, lt-leb}
 use Rattle.el.specs.Test.{allBelow}
 use Rattle.el.specs.TestLaws.{and-left, and-right, allBelow-at}
-use Rattle.owl_text.specs.Levels.{moves, next, opener, inners, inner, inWindow, opening}
+use Rattle.owl_text.specs.Levels.{columns, column, moves, next, opener, inners, inner, inWindow, opening}
 
-pub next-over : (q k : ℕ) → 27 < q → 110 ≡ next q k
-unfolding next
-next-over q k h = rw (le-ltb q 28 h, next)
+pub column-in : (w k : ℕ) → w ≡ k → w < 18 → (getD columns w 0 ≡ column k) × (getD columns w 0 < 14)
+unfolding column columns allBelow
+column-in w k e h = (ap (λ (i : ℕ). getD columns i 0) e, ltb→lt (getD columns w 0) 14 (allBelow-at 18 w (λ i. ltb (getD columns i 0) 14) tt h))
 
-pub next-in : (v w q k : ℕ) → v ≡ q → w ≡ k → q ≤ 27 → k < 18 → (getD moves (v * 18 + w) 0 ≡ next q k) × (getD moves (v * 18 + w) 0 < 112)
+pub next-over : (q k : ℕ) → 27 < q → 90 ≡ next q k
+unfolding next moves
+next-over q k h = sym (ap (λ (row : List ℕ). getD row (column k) 90) (List·getD-eq-default moves [] {n = q} h))
+
+-- within the table any default will do
+pub next-in : (v w q k : ℕ) → v ≡ q → w ≡ column k → q ≤ 27 → w < 14 → (getD (getD moves v []) w 0 ≡ next q k) × (getD (getD moves v []) w 0 < 92)
 unfolding next moves allBelow
-next-in v w q k e f h l =
-    let small : q < 28 = omega arith in
-    let i : ℕ = v * 18 + w in
-    let room : v * 18 + w < 504 = omega arith in
-    let t = allBelow-at 504 (v * 18 + w) (λ i. eqb (getD moves i 0) (getD moves i 110) && ltb (getD moves i 0) 112) tt room in (
-      eqb→eq (getD moves i 0) (getD moves i 110) (and-left (eqb (getD moves i 0) (getD moves i 110)) (ltb (getD moves i 0) 112) t)
-          ∙ ap₂ (λ (a b : ℕ). getD moves (a * 18 + b) 110) e f
-          ∙ (let z : getD moves (q * 18 + k) 110 ≡ next q k = rw (lt-ltb q 28 small, next) in z),
-      ltb→lt (getD moves i 0) 112 (and-right (eqb (getD moves i 0) (getD moves i 110)) (ltb (getD moves i 0) 112) t),
+next-in v w q k e f h slim =
+    let small : v < 28 = omega arith in
+    let x : ℕ = getD (getD moves v []) w 0 in
+    let y : ℕ = getD (getD moves v []) w 90 in
+    let t =
+    allBelow-at 14 w (λ w. eqb (getD (getD moves v []) w 0) (getD (getD moves v []) w 90) && ltb (getD (getD moves v []) w 0) 92)
+    (allBelow-at 28 v (λ v. allBelow 14 (λ w. eqb (getD (getD moves v []) w 0) (getD (getD moves v []) w 90) && ltb (getD (getD moves v []) w 0) 92)) tt small) slim
+    in (
+      eqb→eq x y (and-left (eqb x y) (ltb x 92) t) ∙ ap₂ (λ (a b : ℕ). getD (getD moves a []) b 90) e f,
+      ltb→lt x 92 (and-right (eqb x y) (ltb x 92) t),
     )
 
 pub opener-small : (k : ℕ) → k < 4 → false ≡ opener k

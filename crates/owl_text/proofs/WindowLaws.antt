@@ -223,7 +223,7 @@ window-pop kept ps lo p w =
     (w .0, (let z : length ps ≤ lo + 4096 = omega arith in z), λ i a b. w .2 i a (let z : i < suc (length ps) = omega arith in z) ∙ level-in i p ps (λ e. let z : ⊥ = omega arith in z))
 
 module _
-    (s : List ℕ) (at q depth lo k : ℕ) (kept : List ℕ) (P : Whole s at q depth lo kept) (u : k ≡ kindAt s at) (h : k ≡ 0 → ⊥) (m : ℕ) (g : m ≡ next q k) (f : m ≤ 99) (e : ℕ) (d : e ≡ endAt s at) (b : e ≤ length s)
+    (s : List ℕ) (at q depth lo k : ℕ) (kept : List ℕ) (P : Whole s at q depth lo kept) (u : k ≡ kindAt s at) (h : k ≡ 0 → ⊥) (m : ℕ) (g : m ≡ next q k) (f : m ≤ 79) (e : ℕ) (d : e ≡ endAt s at) (b : e ≤ length s)
   where
     moved : (p : ℕ) (ps : List ℕ) (dep hi : ℕ) (kept′ : List ℕ) → dep ≡ length ps → dep ≤ depth + 1 → Moves (kindAt s at) (next q (kindAt s at)) (P .0 .1) p ps → Window kept′ hi ps → Whole s e p dep hi kept′
     unfolding after

@@ -2,7 +2,8 @@
 --
 --   states          == the slots of each state
 --   slotsOf q       == those of state q
---   next q k        == what a token of kind k does in state q: the state after it (of a word with a body: the state to come back to), or 100 and its refusal
+--   column k        == which column of the table a kind has
+--   next q k        == what a token of kind k does in state q: the state after it (of a word with a body: the state to come back to), or 80 and its refusal
 --   opener k        == a token of kind k has a body
 --   inner k         == the state at the start of that body
 --   levelOf k full  == the state of level k from the outside, where `full` are the states, innermost first
@@ -20,7 +21,7 @@
 use mathlib.Core.Path.{_≡_}
 use mathlib.Core.Bool.{Bool, true, false, _&&_}
 use mathlib.Core.List.{List, [], _∷_}
-use Prim.Native.Nat.{ℕ, zero, suc, _+_, _*_, _-_, _%_, _≤_}
+use Prim.Native.Nat.{ℕ, zero, suc, _+_, _-_, _%_, _≤_}
 use lib.Dec.{eqb, leb, ltb}
 use lib.ListN.{length, getD}
 use Rattle.owl.specs.Token.{placeAt, kindAt, endAt}
@@ -61,41 +62,51 @@ states =
 unfoldable pub slotsOf : ℕ → List Slot
 slotsOf q = getD states q []
 
-unfoldable pub moves : List ℕ
-moves =
-    --  end    (    )    = Pref Onto Decl Clas Prop SubC Equi Inte Some name full pref unli  any
-    110 ∷ 110 ∷ 110 ∷ 110 ∷ 0 ∷ 1 ∷ 110 ∷ 110 ∷ 110 ∷ 110 ∷ 110 ∷ 110 ∷ 110 ∷ 110 ∷ 110 ∷ 110 ∷ 110 ∷ 110 ∷  -- start
-    110 ∷ 110 ∷ 110 ∷ 110 ∷ 110 ∷ 110 ∷ 110 ∷ 110 ∷ 110 ∷ 110 ∷ 110 ∷ 110 ∷ 110 ∷ 110 ∷ 110 ∷ 110 ∷ 110 ∷ 110 ∷  -- the end
-    110 ∷ 3 ∷ 110 ∷ 110 ∷ 110 ∷ 110 ∷ 110 ∷ 110 ∷ 110 ∷ 110 ∷ 110 ∷ 110 ∷ 110 ∷ 110 ∷ 110 ∷ 110 ∷ 110 ∷ 110 ∷  -- Prefix
-    110 ∷ 110 ∷ 110 ∷ 110 ∷ 110 ∷ 110 ∷ 110 ∷ 110 ∷ 110 ∷ 110 ∷ 110 ∷ 110 ∷ 110 ∷ 110 ∷ 110 ∷ 4 ∷ 110 ∷ 110 ∷  --   its prefix name
-    110 ∷ 110 ∷ 110 ∷ 5 ∷ 110 ∷ 110 ∷ 110 ∷ 110 ∷ 110 ∷ 110 ∷ 110 ∷ 110 ∷ 110 ∷ 110 ∷ 110 ∷ 110 ∷ 110 ∷ 110 ∷  --   its `=`
-    110 ∷ 110 ∷ 110 ∷ 110 ∷ 110 ∷ 110 ∷ 110 ∷ 110 ∷ 110 ∷ 110 ∷ 110 ∷ 110 ∷ 110 ∷ 110 ∷ 6 ∷ 110 ∷ 110 ∷ 110 ∷  --   its full name
-    110 ∷ 110 ∷ 1 ∷ 110 ∷ 110 ∷ 110 ∷ 110 ∷ 110 ∷ 110 ∷ 110 ∷ 110 ∷ 110 ∷ 110 ∷ 110 ∷ 110 ∷ 110 ∷ 110 ∷ 110 ∷  --   the last `)` of a construct
-    110 ∷ 8 ∷ 110 ∷ 110 ∷ 110 ∷ 110 ∷ 110 ∷ 110 ∷ 110 ∷ 110 ∷ 110 ∷ 110 ∷ 110 ∷ 110 ∷ 110 ∷ 110 ∷ 110 ∷ 110 ∷  -- Ontology
-    110 ∷ 110 ∷ 1 ∷ 110 ∷ 110 ∷ 110 ∷ 10 ∷ 110 ∷ 110 ∷ 10 ∷ 10 ∷ 110 ∷ 110 ∷ 9 ∷ 9 ∷ 110 ∷ 111 ∷ 110 ∷  --   its name
-    110 ∷ 110 ∷ 1 ∷ 110 ∷ 110 ∷ 110 ∷ 10 ∷ 110 ∷ 110 ∷ 10 ∷ 10 ∷ 110 ∷ 110 ∷ 10 ∷ 10 ∷ 110 ∷ 111 ∷ 110 ∷  --   its version
-    110 ∷ 110 ∷ 1 ∷ 110 ∷ 110 ∷ 110 ∷ 10 ∷ 110 ∷ 110 ∷ 10 ∷ 10 ∷ 110 ∷ 110 ∷ 110 ∷ 110 ∷ 110 ∷ 111 ∷ 110 ∷  --   its items
-    110 ∷ 12 ∷ 110 ∷ 110 ∷ 110 ∷ 110 ∷ 110 ∷ 110 ∷ 110 ∷ 110 ∷ 110 ∷ 110 ∷ 110 ∷ 110 ∷ 110 ∷ 110 ∷ 110 ∷ 110 ∷  -- Declaration
-    110 ∷ 110 ∷ 110 ∷ 110 ∷ 110 ∷ 110 ∷ 110 ∷ 6 ∷ 6 ∷ 110 ∷ 110 ∷ 110 ∷ 110 ∷ 110 ∷ 110 ∷ 110 ∷ 111 ∷ 110 ∷  --   its entity
-    110 ∷ 14 ∷ 110 ∷ 110 ∷ 110 ∷ 110 ∷ 110 ∷ 110 ∷ 110 ∷ 110 ∷ 110 ∷ 110 ∷ 110 ∷ 110 ∷ 110 ∷ 110 ∷ 110 ∷ 110 ∷  -- Class, ObjectProperty
-    110 ∷ 110 ∷ 110 ∷ 110 ∷ 110 ∷ 110 ∷ 110 ∷ 110 ∷ 110 ∷ 110 ∷ 110 ∷ 110 ∷ 110 ∷ 6 ∷ 6 ∷ 110 ∷ 110 ∷ 110 ∷  --   its name
-    110 ∷ 16 ∷ 110 ∷ 110 ∷ 110 ∷ 110 ∷ 110 ∷ 110 ∷ 110 ∷ 110 ∷ 110 ∷ 110 ∷ 110 ∷ 110 ∷ 110 ∷ 110 ∷ 110 ∷ 110 ∷  -- SubClassOf
-    110 ∷ 110 ∷ 110 ∷ 110 ∷ 110 ∷ 110 ∷ 110 ∷ 110 ∷ 110 ∷ 110 ∷ 110 ∷ 17 ∷ 17 ∷ 17 ∷ 17 ∷ 110 ∷ 111 ∷ 110 ∷  --   its first class
-    110 ∷ 110 ∷ 110 ∷ 110 ∷ 110 ∷ 110 ∷ 110 ∷ 110 ∷ 110 ∷ 110 ∷ 110 ∷ 6 ∷ 6 ∷ 6 ∷ 6 ∷ 110 ∷ 111 ∷ 110 ∷  --   the last class of a construct
-    110 ∷ 19 ∷ 110 ∷ 110 ∷ 110 ∷ 110 ∷ 110 ∷ 110 ∷ 110 ∷ 110 ∷ 110 ∷ 110 ∷ 110 ∷ 110 ∷ 110 ∷ 110 ∷ 110 ∷ 110 ∷  -- EquivalentClasses
-    110 ∷ 110 ∷ 110 ∷ 110 ∷ 110 ∷ 110 ∷ 110 ∷ 110 ∷ 110 ∷ 110 ∷ 110 ∷ 20 ∷ 20 ∷ 20 ∷ 20 ∷ 110 ∷ 111 ∷ 110 ∷  --   its first class
-    110 ∷ 110 ∷ 110 ∷ 110 ∷ 110 ∷ 110 ∷ 110 ∷ 110 ∷ 110 ∷ 110 ∷ 110 ∷ 21 ∷ 21 ∷ 21 ∷ 21 ∷ 110 ∷ 111 ∷ 110 ∷  --   its second
-    110 ∷ 110 ∷ 1 ∷ 110 ∷ 110 ∷ 110 ∷ 110 ∷ 110 ∷ 110 ∷ 110 ∷ 110 ∷ 111 ∷ 111 ∷ 111 ∷ 111 ∷ 110 ∷ 111 ∷ 110 ∷  --   no third, `)`
-    110 ∷ 23 ∷ 110 ∷ 110 ∷ 110 ∷ 110 ∷ 110 ∷ 110 ∷ 110 ∷ 110 ∷ 110 ∷ 110 ∷ 110 ∷ 110 ∷ 110 ∷ 110 ∷ 110 ∷ 110 ∷  -- ObjectIntersectionOf
-    110 ∷ 110 ∷ 110 ∷ 110 ∷ 110 ∷ 110 ∷ 110 ∷ 110 ∷ 110 ∷ 110 ∷ 110 ∷ 24 ∷ 24 ∷ 24 ∷ 24 ∷ 110 ∷ 111 ∷ 110 ∷  --   its first class
-    110 ∷ 110 ∷ 110 ∷ 110 ∷ 110 ∷ 110 ∷ 110 ∷ 110 ∷ 110 ∷ 110 ∷ 110 ∷ 25 ∷ 25 ∷ 25 ∷ 25 ∷ 110 ∷ 111 ∷ 110 ∷  --   its second
-    110 ∷ 110 ∷ 1 ∷ 110 ∷ 110 ∷ 110 ∷ 110 ∷ 110 ∷ 110 ∷ 110 ∷ 110 ∷ 25 ∷ 25 ∷ 25 ∷ 25 ∷ 110 ∷ 111 ∷ 110 ∷  --   more, or `)`
-    110 ∷ 27 ∷ 110 ∷ 110 ∷ 110 ∷ 110 ∷ 110 ∷ 110 ∷ 110 ∷ 110 ∷ 110 ∷ 110 ∷ 110 ∷ 110 ∷ 110 ∷ 110 ∷ 110 ∷ 110 ∷  -- ObjectSomeValuesFrom
-    110 ∷ 110 ∷ 110 ∷ 110 ∷ 110 ∷ 110 ∷ 110 ∷ 110 ∷ 110 ∷ 110 ∷ 110 ∷ 110 ∷ 110 ∷ 17 ∷ 17 ∷ 110 ∷ 111 ∷ 110 ∷  --   its role
-    []
+-- the kinds that do the same in every state have one column: 0 the end and anything else; 1 `(`; 2 `)`; 3 `=`; 4 Prefix; 5 Ontology;
+-- 6 Declaration; 7 Class and ObjectProperty; 8 SubClassOf and EquivalentClasses; 9 ObjectIntersectionOf and ObjectSomeValuesFrom;
+-- 10 a short name; 11 a full name; 12 a prefix name; 13 a word that is not listed, before `(`
+unfoldable pub columns : List ℕ
+columns = 0 ∷ 1 ∷ 2 ∷ 3 ∷ 4 ∷ 5 ∷ 6 ∷ 7 ∷ 7 ∷ 8 ∷ 8 ∷ 9 ∷ 9 ∷ 10 ∷ 11 ∷ 12 ∷ 13 ∷ 0 ∷ []
 
+unfoldable pub column : ℕ → ℕ
+column k = getD columns k 0
+
+-- a row for each state
+unfoldable pub moves : List (List ℕ)
+moves =
+    (90 ∷ 90 ∷ 90 ∷ 90 ∷ 0 ∷ 1 ∷ 90 ∷ 90 ∷ 90 ∷ 90 ∷ 90 ∷ 90 ∷ 90 ∷ 90 ∷ [])  -- start
+    ∷ (90 ∷ 90 ∷ 90 ∷ 90 ∷ 90 ∷ 90 ∷ 90 ∷ 90 ∷ 90 ∷ 90 ∷ 90 ∷ 90 ∷ 90 ∷ 90 ∷ [])  -- the end
+    ∷ (90 ∷ 3 ∷ 90 ∷ 90 ∷ 90 ∷ 90 ∷ 90 ∷ 90 ∷ 90 ∷ 90 ∷ 90 ∷ 90 ∷ 90 ∷ 90 ∷ [])  -- Prefix
+    ∷ (90 ∷ 90 ∷ 90 ∷ 90 ∷ 90 ∷ 90 ∷ 90 ∷ 90 ∷ 90 ∷ 90 ∷ 90 ∷ 90 ∷ 4 ∷ 90 ∷ [])  -- its prefix name
+    ∷ (90 ∷ 90 ∷ 90 ∷ 5 ∷ 90 ∷ 90 ∷ 90 ∷ 90 ∷ 90 ∷ 90 ∷ 90 ∷ 90 ∷ 90 ∷ 90 ∷ [])  -- its `=`
+    ∷ (90 ∷ 90 ∷ 90 ∷ 90 ∷ 90 ∷ 90 ∷ 90 ∷ 90 ∷ 90 ∷ 90 ∷ 90 ∷ 6 ∷ 90 ∷ 90 ∷ [])  -- its full name
+    ∷ (90 ∷ 90 ∷ 1 ∷ 90 ∷ 90 ∷ 90 ∷ 90 ∷ 90 ∷ 90 ∷ 90 ∷ 90 ∷ 90 ∷ 90 ∷ 90 ∷ [])  -- the last `)` of a construct
+    ∷ (90 ∷ 8 ∷ 90 ∷ 90 ∷ 90 ∷ 90 ∷ 90 ∷ 90 ∷ 90 ∷ 90 ∷ 90 ∷ 90 ∷ 90 ∷ 90 ∷ [])  -- Ontology
+    ∷ (90 ∷ 90 ∷ 1 ∷ 90 ∷ 90 ∷ 90 ∷ 10 ∷ 90 ∷ 10 ∷ 90 ∷ 9 ∷ 9 ∷ 90 ∷ 91 ∷ [])  -- its name
+    ∷ (90 ∷ 90 ∷ 1 ∷ 90 ∷ 90 ∷ 90 ∷ 10 ∷ 90 ∷ 10 ∷ 90 ∷ 10 ∷ 10 ∷ 90 ∷ 91 ∷ [])  -- its version
+    ∷ (90 ∷ 90 ∷ 1 ∷ 90 ∷ 90 ∷ 90 ∷ 10 ∷ 90 ∷ 10 ∷ 90 ∷ 90 ∷ 90 ∷ 90 ∷ 91 ∷ [])  -- its items
+    ∷ (90 ∷ 12 ∷ 90 ∷ 90 ∷ 90 ∷ 90 ∷ 90 ∷ 90 ∷ 90 ∷ 90 ∷ 90 ∷ 90 ∷ 90 ∷ 90 ∷ [])  -- Declaration
+    ∷ (90 ∷ 90 ∷ 90 ∷ 90 ∷ 90 ∷ 90 ∷ 90 ∷ 6 ∷ 90 ∷ 90 ∷ 90 ∷ 90 ∷ 90 ∷ 91 ∷ [])  -- its entity
+    ∷ (90 ∷ 14 ∷ 90 ∷ 90 ∷ 90 ∷ 90 ∷ 90 ∷ 90 ∷ 90 ∷ 90 ∷ 90 ∷ 90 ∷ 90 ∷ 90 ∷ [])  -- Class, ObjectProperty
+    ∷ (90 ∷ 90 ∷ 90 ∷ 90 ∷ 90 ∷ 90 ∷ 90 ∷ 90 ∷ 90 ∷ 90 ∷ 6 ∷ 6 ∷ 90 ∷ 90 ∷ [])  -- its name
+    ∷ (90 ∷ 16 ∷ 90 ∷ 90 ∷ 90 ∷ 90 ∷ 90 ∷ 90 ∷ 90 ∷ 90 ∷ 90 ∷ 90 ∷ 90 ∷ 90 ∷ [])  -- SubClassOf
+    ∷ (90 ∷ 90 ∷ 90 ∷ 90 ∷ 90 ∷ 90 ∷ 90 ∷ 90 ∷ 90 ∷ 17 ∷ 17 ∷ 17 ∷ 90 ∷ 91 ∷ [])  -- its first class
+    ∷ (90 ∷ 90 ∷ 90 ∷ 90 ∷ 90 ∷ 90 ∷ 90 ∷ 90 ∷ 90 ∷ 6 ∷ 6 ∷ 6 ∷ 90 ∷ 91 ∷ [])  -- the last class of a construct
+    ∷ (90 ∷ 19 ∷ 90 ∷ 90 ∷ 90 ∷ 90 ∷ 90 ∷ 90 ∷ 90 ∷ 90 ∷ 90 ∷ 90 ∷ 90 ∷ 90 ∷ [])  -- EquivalentClasses
+    ∷ (90 ∷ 90 ∷ 90 ∷ 90 ∷ 90 ∷ 90 ∷ 90 ∷ 90 ∷ 90 ∷ 20 ∷ 20 ∷ 20 ∷ 90 ∷ 91 ∷ [])  -- its first class
+    ∷ (90 ∷ 90 ∷ 90 ∷ 90 ∷ 90 ∷ 90 ∷ 90 ∷ 90 ∷ 90 ∷ 21 ∷ 21 ∷ 21 ∷ 90 ∷ 91 ∷ [])  -- its second
+    ∷ (90 ∷ 90 ∷ 1 ∷ 90 ∷ 90 ∷ 90 ∷ 90 ∷ 90 ∷ 90 ∷ 91 ∷ 91 ∷ 91 ∷ 90 ∷ 91 ∷ [])  -- no third, `)`
+    ∷ (90 ∷ 23 ∷ 90 ∷ 90 ∷ 90 ∷ 90 ∷ 90 ∷ 90 ∷ 90 ∷ 90 ∷ 90 ∷ 90 ∷ 90 ∷ 90 ∷ [])  -- ObjectIntersectionOf
+    ∷ (90 ∷ 90 ∷ 90 ∷ 90 ∷ 90 ∷ 90 ∷ 90 ∷ 90 ∷ 90 ∷ 24 ∷ 24 ∷ 24 ∷ 90 ∷ 91 ∷ [])  -- its first class
+    ∷ (90 ∷ 90 ∷ 90 ∷ 90 ∷ 90 ∷ 90 ∷ 90 ∷ 90 ∷ 90 ∷ 25 ∷ 25 ∷ 25 ∷ 90 ∷ 91 ∷ [])  -- its second
+    ∷ (90 ∷ 90 ∷ 1 ∷ 90 ∷ 90 ∷ 90 ∷ 90 ∷ 90 ∷ 90 ∷ 25 ∷ 25 ∷ 25 ∷ 90 ∷ 91 ∷ [])  -- more, or `)`
+    ∷ (90 ∷ 27 ∷ 90 ∷ 90 ∷ 90 ∷ 90 ∷ 90 ∷ 90 ∷ 90 ∷ 90 ∷ 90 ∷ 90 ∷ 90 ∷ 90 ∷ [])  -- ObjectSomeValuesFrom
+    ∷ (90 ∷ 90 ∷ 90 ∷ 90 ∷ 90 ∷ 90 ∷ 90 ∷ 90 ∷ 90 ∷ 90 ∷ 17 ∷ 17 ∷ 90 ∷ 91 ∷ [])  -- its role
+    ∷ []
+
+-- 90 and 91 refuse with 10 and 11
 unfoldable pub next : ℕ → ℕ → ℕ
-next q k = elim (ltb q 28) [ true ↦ getD moves (q * 18 + k) 110 | false ↦ 110 ]
+next q k = getD (getD moves q []) (column k) 90
 
 -- the kinds of the listed words
 unfoldable pub opener : ℕ → Bool
@@ -116,8 +127,8 @@ run s zero at q st = verdict 10 at
 run s (suc f) at q st =
     elim (eqb (kindAt s at) 0) [
       | true ↦ elim (eqb q 1) [ true ↦ verdict 0 0 | false ↦ verdict 10 (length s) ]
-      | false ↦ elim (ltb 99 (next q (kindAt s at))) [
-        | true ↦ verdict (next q (kindAt s at) - 100) (placeAt s at)
+      | false ↦ elim (ltb 79 (next q (kindAt s at))) [
+        | true ↦ verdict (next q (kindAt s at) - 80) (placeAt s at)
         | false ↦ elim (opener (kindAt s at)) [
           | true ↦ run s f (endAt s at) (inner (kindAt s at)) (next q (kindAt s at) ∷ st)
           | false ↦ elim (eqb (kindAt s at) 2) [

@@ -1,4 +1,5 @@
 -- The table is the definition's.
+use mathlib.Core.Path.{_∙_}
 use native.Mathlib.Omega.{arith}
 use Rattle.owl_text.specs.Levels.{moves}
 use Rattle.owl_text.proofs.TableLaws as tables
@@ -12,21 +13,24 @@ returns c = (tables.next-over _ _ (c .if1 .taken), omega arith)
 wide-requires : tie.Need-wide-requires
 wide-requires c κs = search needs
 
-mul-result : tie.Need-mul-result
-mul-result c = search needs
+column-requires : tie.Need-column-requires
+column-requires c κs = search needs
 
 wide-requires-2 : tie.Need-wide-requires-2
 wide-requires-2 c κs = search needs
 
-add-result : tie.Need-add-result
-add-result c = search needs
+mul-result : tie.Need-mul-result
+mul-result c = search needs
 
-array-read-result : tie.Need-array-read-result
-array-read-result c = search needs
+index-1-result : tie.Need-index-1-result
+index-1-result c = search needs
+
+index-2-result : tie.Need-index-2-result
+index-2-result c = search needs
 
 returns-2 : tie.Need-returns-2
 unfolding moves
-returns-2 c = tables.next-in _ _ _ _ (c .before .wide .ensures) (c .wide2 .ensures) (omega arith) (omega arith)
+returns-2 c = tables.next-in (c .before .before .before .wide .result) (c .before .wide2 .result) _ _ (c .before .before .before .wide .ensures) (c .before .wide2 .ensures ∙ c .before .before .column .ensures .0) (omega arith) (omega arith)
 
 pub next-spec : {M : Type 1} → statement M
 next-spec =
@@ -34,8 +38,9 @@ next-spec =
     (tie.spec
     returns
     wide-requires
-    mul-result
+    column-requires
     wide-requires-2
-    add-result
-    array-read-result
+    mul-result
+    index-1-result
+    index-2-result
     returns-2)

@@ -17,3 +17,5 @@ pub mod SlotLaws
 pub mod GrammarLaws
 pub mod TokenLaws
 pub mod TextLaws
+pub mod UniqueLaws
+pub mod TextCases

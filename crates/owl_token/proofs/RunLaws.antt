@@ -1,21 +1,22 @@
 -- Laws of the loops that read a text byte by byte, and of their tables.
 --
---   class-right, between-right, shaped-right, mark-right == what stands in the tables
+--   class-.., between-.., shape-by    == what the tests on a byte, a class and a mode say
+--   mark-right                        == what stands in a table
 --   skip-start, skip-stop, skip-on, skip-end     == the loop over blanks and comments
 --   Running                                      == the loop over a run: its end, and its shape so far
 --   running-start, running-stop, running-on, running-end == its turns
 --   close-start, close-stop, close-on, close-end == the loop up to `>`
 --   bytes-lengths, bytes-on, bytes-off, bytes-end == the loop over two lists of bytes
 use mathlib.Core.Path.{_≡_, refl, sym, ap, ap₂, subst, _∙_}
-use mathlib.Core.Bool.{Bool, true, false, _&&_}
+use mathlib.Core.Bool.{Bool, true, false, _&&_, _||_, not}
 use mathlib.Core.List.{[], List, _∷_}
-use Prim.Native.Nat.{ℕ, _/_, _%_, suc, _+_, _*_, _≤_, _<_}
+use Prim.Native.Nat.{ℕ, suc, _+_, _*_, _≤_, _<_}
 use native.Mathlib.Omega.{arith}
-use lib.Dec.{eqb, eqb→eq, ltb, ltb→lt}
+use lib.Dec.{T, eqb, eqb→eq, leb, le→leb, ltb, lt→ltb, ltb→lt, not-T}
 use lib.ListN.{length, getD, take, drop, drop-of-length-le}
 use borrow.Author.Tests.{eq-eqb, ne-eqb, lt-ltb, le-ltb}
 use Rattle.el.specs.Test.{allBelow}
-use Rattle.el.specs.TestLaws.{and-left, and-right, allBelow-at}
+use Rattle.el.specs.TestLaws.{and-make, and-left, and-right, allBelow-at}
 use Rattle.owl.specs.Naming.{sameBytes}
 use Rattle.owl.specs.Token.{isPlain, byteClass, betweens, between, blank, runLength, shapes, shaped, shape, upToClose, markKinds, placeAt}
 use Rattle.owl.specs.TokenLaws.{drop-cons, run-more}
@@ -23,55 +24,114 @@ use Rattle.owl.specs.TokenLaws.{drop-cons, run-more}
 ----------------------------------------------------------------------------------------------------
 -- Tables
 
-unfoldable pub classes : List (List ℕ)
-classes =
-    (4 ∷ 4 ∷ 4 ∷ 4 ∷ 4 ∷ 4 ∷ 4 ∷ 4 ∷ 4 ∷ 5 ∷ 6 ∷ 4 ∷ 4 ∷ 6 ∷ 4 ∷ 4 ∷ [])
-    ∷ (4 ∷ 4 ∷ 4 ∷ 4 ∷ 4 ∷ 4 ∷ 4 ∷ 4 ∷ 4 ∷ 4 ∷ 4 ∷ 4 ∷ 4 ∷ 4 ∷ 4 ∷ 4 ∷ [])
-    ∷ (5 ∷ 4 ∷ 13 ∷ 7 ∷ 4 ∷ 4 ∷ 4 ∷ 4 ∷ 8 ∷ 9 ∷ 4 ∷ 4 ∷ 4 ∷ 2 ∷ 2 ∷ 4 ∷ [])
-    ∷ (0 ∷ 0 ∷ 0 ∷ 0 ∷ 0 ∷ 0 ∷ 0 ∷ 0 ∷ 0 ∷ 0 ∷ 3 ∷ 4 ∷ 11 ∷ 10 ∷ 12 ∷ 4 ∷ [])
-    ∷ (4 ∷ 0 ∷ 0 ∷ 0 ∷ 0 ∷ 0 ∷ 0 ∷ 0 ∷ 0 ∷ 0 ∷ 0 ∷ 0 ∷ 0 ∷ 0 ∷ 0 ∷ 0 ∷ [])
-    ∷ (0 ∷ 0 ∷ 0 ∷ 0 ∷ 0 ∷ 0 ∷ 0 ∷ 0 ∷ 0 ∷ 0 ∷ 0 ∷ 4 ∷ 4 ∷ 4 ∷ 4 ∷ 1 ∷ [])
-    ∷ (4 ∷ 0 ∷ 0 ∷ 0 ∷ 0 ∷ 0 ∷ 0 ∷ 0 ∷ 0 ∷ 0 ∷ 0 ∷ 0 ∷ 0 ∷ 0 ∷ 0 ∷ 0 ∷ [])
-    ∷ (0 ∷ 0 ∷ 0 ∷ 0 ∷ 0 ∷ 0 ∷ 0 ∷ 0 ∷ 0 ∷ 0 ∷ 0 ∷ 4 ∷ 4 ∷ 4 ∷ 4 ∷ 4 ∷ [])
-    ∷ (0 ∷ 0 ∷ 0 ∷ 0 ∷ 0 ∷ 0 ∷ 0 ∷ 0 ∷ 0 ∷ 0 ∷ 0 ∷ 0 ∷ 0 ∷ 0 ∷ 0 ∷ 0 ∷ [])
-    ∷ (0 ∷ 0 ∷ 0 ∷ 0 ∷ 0 ∷ 0 ∷ 0 ∷ 0 ∷ 0 ∷ 0 ∷ 0 ∷ 0 ∷ 0 ∷ 0 ∷ 0 ∷ 0 ∷ [])
-    ∷ (0 ∷ 0 ∷ 0 ∷ 0 ∷ 0 ∷ 0 ∷ 0 ∷ 0 ∷ 0 ∷ 0 ∷ 0 ∷ 0 ∷ 0 ∷ 0 ∷ 0 ∷ 0 ∷ [])
-    ∷ (0 ∷ 0 ∷ 0 ∷ 0 ∷ 0 ∷ 0 ∷ 0 ∷ 0 ∷ 0 ∷ 0 ∷ 0 ∷ 0 ∷ 0 ∷ 0 ∷ 0 ∷ 0 ∷ [])
-    ∷ (0 ∷ 0 ∷ 0 ∷ 0 ∷ 0 ∷ 0 ∷ 0 ∷ 0 ∷ 0 ∷ 0 ∷ 0 ∷ 0 ∷ 0 ∷ 0 ∷ 0 ∷ 0 ∷ [])
-    ∷ (0 ∷ 0 ∷ 0 ∷ 0 ∷ 0 ∷ 0 ∷ 0 ∷ 0 ∷ 0 ∷ 0 ∷ 0 ∷ 0 ∷ 0 ∷ 0 ∷ 0 ∷ 0 ∷ [])
-    ∷ (0 ∷ 0 ∷ 0 ∷ 0 ∷ 0 ∷ 0 ∷ 0 ∷ 0 ∷ 0 ∷ 0 ∷ 0 ∷ 0 ∷ 0 ∷ 0 ∷ 0 ∷ 0 ∷ [])
-    ∷ (0 ∷ 0 ∷ 0 ∷ 0 ∷ 0 ∷ 0 ∷ 0 ∷ 0 ∷ 0 ∷ 0 ∷ 0 ∷ 0 ∷ 0 ∷ 0 ∷ 0 ∷ 0 ∷ [])
-    ∷ []
+-- one computed test gives the class of every byte that passes p
+by-class : (p : ℕ → Bool) (v : ℕ) → T (allBelow 256 (λ k. not (p k) || eqb (byteClass k) v)) → (b : ℕ) → b < 256 → T (p b) → v ≡ byteClass b
+by-class p v t b h k = go (p b) k (allBelow-at 256 b (λ k. not (p k) || eqb (byteClass k) v) t h)
+  where
+    go : (q : Bool) → T q → T (not q || eqb (byteClass b) v) → v ≡ byteClass b
+    go true u w = sym (eqb→eq (byteClass b) v w)
+    go false u w = absurd u
 
--- the class of byte b stands in row b / 16, at place b % 16
-abbrev pub classAt : ℕ → ℕ
-classAt b = getD (getD classes (b / 16) []) (b % 16) 0
+pub class-is : (n v b : ℕ) → byteClass n ≡ v → b ≡ n → v ≡ byteClass b
+class-is n v b e d = sym (ap byteClass d ∙ e)
 
-pub class-right : (v w b : ℕ) → v ≡ b → w ≡ b → b < 256 → (getD (getD classes (v / 16) []) (w % 16) 0 ≡ byteClass b) × (getD (getD classes (v / 16) []) (w % 16) 0 < 14)
-unfolding classes byteClass isPlain allBelow
-class-right v w b e f h =
-    let t = allBelow-at 256 b (λ k. eqb (classAt k) (byteClass k) && ltb (classAt k) 14) tt h in
-    let x : getD (getD classes (v / 16) []) (w % 16) 0 ≡ classAt b = ap₂ (λ (i j : ℕ). getD (getD classes (i / 16) []) (j % 16) 0) e f in (
-      x ∙ eqb→eq (classAt b) (byteClass b) (and-left (eqb (classAt b) (byteClass b)) (ltb (classAt b) 14) t),
-      subst (λ (n : ℕ). n < 14) (sym x) (ltb→lt (classAt b) 14 (and-right (eqb (classAt b) (byteClass b)) (ltb (classAt b) 14) t)),
-    )
+is-not : (b n : ℕ) → (b ≡ n → ⊥) → T (not (eqb b n))
+is-not b n h = not-T (eqb b n) (λ t. h (eqb→eq b n t))
 
-pub between-right : (v w x c b : ℕ) → v ≡ c → w ≡ x → x ≡ byteClass b → v * 14 + w < 28 → (getD betweens (v * 14 + w) 0 ≡ between c b) × (getD betweens (v * 14 + w) 0 < 3)
-unfolding betweens between allBelow
-between-right v w x c b e f g h = (
-  ap₂ (λ (i j : ℕ). getD betweens (i * 14 + j) 0) e (f ∙ g),
-  ltb→lt (getD betweens (v * 14 + w) 0) 3 (allBelow-at 28 (v * 14 + w) (λ k. ltb (getD betweens k 0) 3) tt h),
-)
+pub class-lower : (b : ℕ) → 96 < b → b < 123 → 0 ≡ byteClass b
+unfolding byteClass isPlain allBelow
+class-lower b h k = by-class (λ b. ltb 96 b && ltb b 123) 0 tt b (let z : b < 256 = omega arith in z) (and-make (ltb 96 b) (ltb b 123) (lt→ltb 96 b h) (lt→ltb b 123 k))
 
--- within the table any default will do
-pub shaped-right : (v w m c : ℕ) → v ≡ m → w ≡ c → v * 5 + w < 30 → (getD shapes (v * 5 + w) 0 ≡ getD shapes (m * 5 + c) 5) × (getD shapes (v * 5 + w) 0 < 6)
-unfolding shapes allBelow
-shaped-right v w m c e f h =
-    let t = allBelow-at 30 (v * 5 + w) (λ k. eqb (getD shapes k 0) (getD shapes k 5) && ltb (getD shapes k 0) 6) tt h in
-    let k : ℕ = v * 5 + w in (
-      eqb→eq (getD shapes k 0) (getD shapes k 5) (and-left (eqb (getD shapes k 0) (getD shapes k 5)) (ltb (getD shapes k 0) 6) t) ∙ ap₂ (λ (i j : ℕ). getD shapes (i * 5 + j) 5) e f,
-      ltb→lt (getD shapes k 0) 6 (and-right (eqb (getD shapes k 0) (getD shapes k 5)) (ltb (getD shapes k 0) 6) t),
-    )
+pub class-brace : (b : ℕ) → 123 ≤ b → b < 128 → 4 ≡ byteClass b
+unfolding byteClass isPlain allBelow
+class-brace b h k = by-class (λ b. leb 123 b && ltb b 128) 4 tt b (let z : b < 256 = omega arith in z) (and-make (leb 123 b) (ltb b 128) (le→leb 123 b h) (lt→ltb b 128 k))
+
+pub class-high : (b : ℕ) → 128 ≤ b → b < 256 → 0 ≡ byteClass b
+unfolding byteClass isPlain allBelow
+class-high b h k = by-class (λ b. leb 128 b) 0 tt b k (le→leb 128 b h)
+
+pub class-upper : (b : ℕ) → 64 < b → b < 91 → 0 ≡ byteClass b
+unfolding byteClass isPlain allBelow
+class-upper b h k = by-class (λ b. ltb 64 b && ltb b 91) 0 tt b (let z : b < 256 = omega arith in z) (and-make (ltb 64 b) (ltb b 91) (lt→ltb 64 b h) (lt→ltb b 91 k))
+
+pub class-bracket : (b : ℕ) → 91 ≤ b → b ≤ 96 → (b ≡ 95 → ⊥) → 4 ≡ byteClass b
+unfolding byteClass isPlain allBelow
+class-bracket b h k n =
+    by-class (λ b. leb 91 b && (leb b 96 && not (eqb b 95))) 4 tt b (let z : b < 256 = omega arith in z)
+    (and-make (leb 91 b) (leb b 96 && not (eqb b 95)) (le→leb 91 b h) (and-make (leb b 96) (not (eqb b 95)) (le→leb b 96 k) (is-not b 95 n)))
+
+pub class-digit : (b : ℕ) → 47 < b → b < 58 → 0 ≡ byteClass b
+unfolding byteClass isPlain allBelow
+class-digit b h k = by-class (λ b. ltb 47 b && ltb b 58) 0 tt b (let z : b < 256 = omega arith in z) (and-make (ltb 47 b) (ltb b 58) (lt→ltb 47 b h) (lt→ltb b 58 k))
+
+-- the bytes between the digits and the letters, but for those that have a class of their own
+pub class-between : (b : ℕ) → 58 ≤ b → b ≤ 64 → (b ≡ 58 → ⊥) → (b ≡ 60 → ⊥) → (b ≡ 61 → ⊥) → (b ≡ 62 → ⊥) → 4 ≡ byteClass b
+unfolding byteClass isPlain allBelow
+class-between b h k m n o p =
+    by-class (λ b. leb 58 b && (leb b 64 && (not (eqb b 58) && (not (eqb b 60) && (not (eqb b 61) && not (eqb b 62)))))) 4 tt b (let z : b < 256 = omega arith in z)
+    (and-make (leb 58 b) (leb b 64 && (not (eqb b 58) && (not (eqb b 60) && (not (eqb b 61) && not (eqb b 62))))) (le→leb 58 b h)
+    (and-make (leb b 64) (not (eqb b 58) && (not (eqb b 60) && (not (eqb b 61) && not (eqb b 62)))) (le→leb b 64 k)
+    (and-make (not (eqb b 58)) (not (eqb b 60) && (not (eqb b 61) && not (eqb b 62))) (is-not b 58 m)
+    (and-make (not (eqb b 60)) (not (eqb b 61) && not (eqb b 62)) (is-not b 60 n) (and-make (not (eqb b 61)) (not (eqb b 62)) (is-not b 61 o) (is-not b 62 p))))))
+
+-- none of the listed bytes
+unfoldable pub noneOf : List ℕ → ℕ → Bool
+noneOf [] b = true
+noneOf (n ∷ l) b = not (eqb b n) && noneOf l b
+
+abbrev pub NoneOf : List ℕ → ℕ → Type 0
+NoneOf [] b = Unit {0}
+NoneOf (n ∷ l) b = (b ≡ n → ⊥) × NoneOf l b
+
+none-of : (l : List ℕ) (b : ℕ) → NoneOf l b → T (noneOf l b)
+unfolding noneOf
+none-of [] b h = tt
+none-of (n ∷ l) b h = and-make (not (eqb b n)) (noneOf l b) (is-not b n (h .0)) (none-of l b (h .1))
+
+-- the other bytes below the digits
+pub class-low : (b : ℕ) → b ≤ 47 → NoneOf (32 ∷ 40 ∷ 41 ∷ 10 ∷ 45 ∷ 46 ∷ 35 ∷ 13 ∷ 9 ∷ 34 ∷ []) b → 4 ≡ byteClass b
+unfolding byteClass isPlain allBelow noneOf
+class-low b h n =
+    by-class (λ b. leb b 47 && noneOf (32 ∷ 40 ∷ 41 ∷ 10 ∷ 45 ∷ 46 ∷ 35 ∷ 13 ∷ 9 ∷ 34 ∷ []) b) 4 tt b (let z : b < 256 = omega arith in z)
+    (and-make (leb b 47) (noneOf (32 ∷ 40 ∷ 41 ∷ 10 ∷ 45 ∷ 46 ∷ 35 ∷ 13 ∷ 9 ∷ 34 ∷ []) b) (le→leb b 47 h) (none-of (32 ∷ 40 ∷ 41 ∷ 10 ∷ 45 ∷ 46 ∷ 35 ∷ 13 ∷ 9 ∷ 34 ∷ []) b n))
+
+-- by the class k of a byte, between tokens (c is 0) and in a comment (c is 1)
+between-at : (c b k v : ℕ) → k ≡ byteClass b → v ≡ getD betweens (c * 14 + k) 0 → v ≡ between c b
+unfolding between
+between-at c b k v e d = d ∙ ap (λ (j : ℕ). getD betweens (c * 14 + j) 0) e
+
+pub between-is : (c b k m n v : ℕ) → k ≡ byteClass b → c ≡ m → k ≡ n → v ≡ getD betweens (m * 14 + n) 0 → v ≡ between c b
+between-is c b k m n v e f g d = between-at c b k v e (d ∙ ap₂ (λ (i j : ℕ). getD betweens (i * 14 + j) 0) (sym f) (sym g))
+
+-- for the classes that are not asked for
+by-between : (l : List ℕ) (m v : ℕ) → T (allBelow 14 (λ k. not (noneOf l k) || eqb (getD betweens (m * 14 + k) 0) v)) → (k : ℕ) → k < 14 → NoneOf l k → v ≡ getD betweens (m * 14 + k) 0
+by-between l m v t k h n = go (noneOf l k) (none-of l k n) (allBelow-at 14 k (λ k. not (noneOf l k) || eqb (getD betweens (m * 14 + k) 0) v) t h)
+  where
+    go : (q : Bool) → T q → T (not q || eqb (getD betweens (m * 14 + k) 0) v) → v ≡ getD betweens (m * 14 + k) 0
+    go true u w = sym (eqb→eq (getD betweens (m * 14 + k) 0) v w)
+    go false u w = absurd u
+
+pub between-comment : (c b k : ℕ) → k ≡ byteClass b → k < 14 → c ≡ 1 → (k ≡ 6 → ⊥) → 1 ≡ between c b
+unfolding betweens allBelow noneOf
+between-comment c b k e h f n = between-at c b k 1 e (by-between (6 ∷ []) 1 1 tt k h (n, tt) ∙ ap (λ (i : ℕ). getD betweens (i * 14 + k) 0) (sym f))
+
+pub between-token : (c b k : ℕ) → k ≡ byteClass b → k < 14 → c ≡ 0 → (k ≡ 5 → ⊥) → (k ≡ 6 → ⊥) → (k ≡ 7 → ⊥) → 2 ≡ between c b
+unfolding betweens allBelow noneOf
+between-token c b k e h f m n o = between-at c b k 2 e (by-between (5 ∷ 6 ∷ 7 ∷ []) 0 2 tt k h (m, (n, (o, tt))) ∙ ap (λ (i : ℕ). getD betweens (i * 14 + k) 0) (sym f))
+
+-- one computed test gives the shape after every mode and class that pass p
+by-shape : (p : ℕ → ℕ → Bool) (v : ℕ) → T (allBelow 6 (λ m. allBelow 5 (λ c. not (p m c) || eqb (getD shapes (m * 5 + c) 5) v))) → (m c : ℕ) → m < 6 → c < 5 → T (p m c) → v ≡ getD shapes (m * 5 + c) 5
+by-shape p v t m c h k u =
+    go (p m c) u
+    (allBelow-at 5 c (λ c. not (p m c) || eqb (getD shapes (m * 5 + c) 5) v) (allBelow-at 6 m (λ m. allBelow 5 (λ c. not (p m c) || eqb (getD shapes (m * 5 + c) 5) v)) t h) k)
+  where
+    go : (q : Bool) → T q → T (not q || eqb (getD shapes (m * 5 + c) 5) v) → v ≡ getD shapes (m * 5 + c) 5
+    go true u w = sym (eqb→eq (getD shapes (m * 5 + c) 5) v w)
+    go false u w = absurd u
+
+-- m is one of ms, or anything where that is empty; c is none of cs
+pub shape-by : (v : ℕ) (ns cs : List ℕ) (m c : ℕ) → T (allBelow 6 (λ m. allBelow 5 (λ c. not (noneOf ns m && noneOf cs c) || eqb (getD shapes (m * 5 + c) 5) v))) → m < 6 → c < 5 → NoneOf ns m → NoneOf cs c → v ≡ getD shapes (m * 5 + c) 5
+shape-by v ns cs m c t h k x y = by-shape (λ m c. noneOf ns m && noneOf cs c) v t m c h k (and-make (noneOf ns m) (noneOf cs c) (none-of ns m x) (none-of cs c y))
 
 pub mark-right : (w c : ℕ) → w ≡ c → w < 14 → (getD markKinds w 0 ≡ getD markKinds c 17) × (getD markKinds w 0 < 18)
 unfolding markKinds allBelow

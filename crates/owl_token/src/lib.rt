@@ -24,65 +24,100 @@ fn wide(x: u8) -> usize
     x as usize
 }
 
+// The common bytes are asked for first.
 fn byte_class(b: u8) -> u8
     ensures { λ r. ⌜ (r ≡ byteClass b) × (r < 14) ⌝ }
 {
-    let classes = [
-        [4, 4, 4, 4, 4, 4, 4, 4, 4, 5, 6, 4, 4, 6, 4, 4],
-        [4, 4, 4, 4, 4, 4, 4, 4, 4, 4, 4, 4, 4, 4, 4, 4],
-        [5, 4, 13, 7, 4, 4, 4, 4, 8, 9, 4, 4, 4, 2, 2, 4],
-        [0, 0, 0, 0, 0, 0, 0, 0, 0, 0, 3, 4, 11, 10, 12, 4],
-        [4, 0, 0, 0, 0, 0, 0, 0, 0, 0, 0, 0, 0, 0, 0, 0],
-        [0, 0, 0, 0, 0, 0, 0, 0, 0, 0, 0, 4, 4, 4, 4, 1],
-        [4, 0, 0, 0, 0, 0, 0, 0, 0, 0, 0, 0, 0, 0, 0, 0],
-        [0, 0, 0, 0, 0, 0, 0, 0, 0, 0, 0, 4, 4, 4, 4, 4],
-        [0, 0, 0, 0, 0, 0, 0, 0, 0, 0, 0, 0, 0, 0, 0, 0],
-        [0, 0, 0, 0, 0, 0, 0, 0, 0, 0, 0, 0, 0, 0, 0, 0],
-        [0, 0, 0, 0, 0, 0, 0, 0, 0, 0, 0, 0, 0, 0, 0, 0],
-        [0, 0, 0, 0, 0, 0, 0, 0, 0, 0, 0, 0, 0, 0, 0, 0],
-        [0, 0, 0, 0, 0, 0, 0, 0, 0, 0, 0, 0, 0, 0, 0, 0],
-        [0, 0, 0, 0, 0, 0, 0, 0, 0, 0, 0, 0, 0, 0, 0, 0],
-        [0, 0, 0, 0, 0, 0, 0, 0, 0, 0, 0, 0, 0, 0, 0, 0],
-        [0, 0, 0, 0, 0, 0, 0, 0, 0, 0, 0, 0, 0, 0, 0, 0],
-    ];
-    classes[wide(b) / 16][wide(b) % 16]
+    if 96 < b {
+        if b < 123 {
+            return 0;
+        }
+        if b < 128 {
+            return 4;
+        }
+        return 0;
+    }
+    if 64 < b {
+        if b < 91 {
+            return 0;
+        }
+        if b == 95 {
+            return 1;
+        }
+        return 4;
+    }
+    if 47 < b {
+        if b < 58 {
+            return 0;
+        }
+        if b == 58 {
+            return 3;
+        }
+        if b == 60 {
+            return 11;
+        }
+        if b == 61 {
+            return 10;
+        }
+        if b == 62 {
+            return 12;
+        }
+        return 4;
+    }
+    if b == 32 {
+        return 5;
+    }
+    if b == 40 {
+        return 8;
+    }
+    if b == 41 {
+        return 9;
+    }
+    if b == 10 {
+        return 6;
+    }
+    if b == 45 {
+        return 2;
+    }
+    if b == 46 {
+        return 2;
+    }
+    if b == 35 {
+        return 7;
+    }
+    if b == 13 {
+        return 6;
+    }
+    if b == 9 {
+        return 5;
+    }
+    if b == 34 {
+        return 13;
+    }
+    4
 }
 
 fn between(c: u8, b: u8) -> u8
     requires { ⌜ c < 2 ⌝ }
     ensures { λ r. ⌜ (r ≡ between c b) × (r < 3) ⌝ }
 {
-    let betweens = [
-        2,
-        2,
-        2,
-        2,
-        2,
-        0,
-        0,
-        1,
-        2,
-        2,
-        2,
-        2,
-        2,
-        2,
-        1,
-        1,
-        1,
-        1,
-        1,
-        1,
-        0,
-        1,
-        1,
-        1,
-        1,
-        1,
-        1,
-        1,
-    ];
-    betweens[wide(c) * 14 + wide(byte_class(b))]
+    let k = byte_class(b);
+    if c == 1 {
+        if k == 6 {
+            return 0;
+        }
+        return 1;
+    }
+    if k == 5 {
+        return 0;
+    }
+    if k == 6 {
+        return 0;
+    }
+    if k == 7 {
+        return 1;
+    }
+    2
 }
 
 // Where the next token begins.
@@ -102,43 +137,45 @@ fn skip(s: &[u8], at: usize) -> usize
     i
 }
 
+// The shape of a run after one more byte.
 fn shaped(m: u8, c: u8) -> u8
     requires { ⌜ (m < 6) × (c < 5) ⌝ }
     ensures { λ r. ⌜ (r ≡ getD shapes (m * 5 + c) 5) × (r < 6) ⌝ }
 {
-    let shapes = [
-        2,
-        1,
-        2,
-        3,
-        5,
-        2,
-        2,
-        2,
-        5,
-        5,
-        2,
-        2,
-        2,
-        3,
-        5,
-        4,
-        4,
-        5,
-        4,
-        5,
-        4,
-        4,
-        4,
-        4,
-        5,
-        5,
-        5,
-        5,
-        5,
-        5,
-    ];
-    shapes[wide(m) * 5 + wide(c)]
+    if c == 4 {
+        return 5;
+    }
+    if m == 4 {
+        return 4;
+    }
+    if m == 2 {
+        if c == 3 {
+            return 3;
+        }
+        return 2;
+    }
+    if m == 5 {
+        return 5;
+    }
+    if m == 3 {
+        if c == 2 {
+            return 5;
+        }
+        return 4;
+    }
+    if c == 3 {
+        if m == 1 {
+            return 5;
+        }
+        return 3;
+    }
+    if m == 1 {
+        return 2;
+    }
+    if c == 1 {
+        return 1;
+    }
+    2
 }
 
 // The run at a position: where it ends, and what it is.

@@ -1,11 +1,11 @@
 -- Laws of the small functions: what stands in the tables, and what is in the window.
 --
---   column-in, next-over, next-in              == the table of moves
+--   column-in, next-over, next-in, next-lent              == the table of moves
 --   opener-small, opener-rest         == the kinds of the listed words
 --   inner-over, inner-in              == the table of inner states
 --   window-below, window-above, window-in == a level is from lo to high, or is not
 --   opening-none, opening-at          == a token opens a level, or does not
-use mathlib.Core.Path.{_≡_, ap, ap₂, sym, _∙_}
+use mathlib.Core.Path.{subst, _≡_, ap, ap₂, sym, _∙_}
 use mathlib.Core.Bool.{Bool, true, false, _&&_}
 use mathlib.Core.List.{List, []}
 use Prim.Native.Nat.{ℕ, _≤_, _<_}
@@ -39,6 +39,10 @@ next-in v w q k e f h slim =
       eqb→eq x y (and-left (eqb x y) (ltb x 92) t) ∙ ap₂ (λ (a b : ℕ). getD (getD moves a []) b 90) e f,
       ltb→lt x 92 (and-right (eqb x y) (ltb x 92) t),
     )
+
+-- the same, in a table that is lent
+pub next-lent : (t : List (List ℕ)) → t ≡ moves → (v w q k : ℕ) → v ≡ q → w ≡ column k → q ≤ 27 → w < 14 → (getD (getD t v []) w 0 ≡ next q k) × (getD (getD t v []) w 0 < 92)
+next-lent t d v w q k e f h l = subst (λ (t : List (List ℕ)). (getD (getD t v []) w 0 ≡ next q k) × (getD (getD t v []) w 0 < 92)) (sym d) (next-in v w q k e f h l)
 
 pub opener-small : (k : ℕ) → k < 4 → false ≡ opener k
 unfolding opener

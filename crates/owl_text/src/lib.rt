@@ -7,7 +7,7 @@ ghost use mathlib.Core.Path.{_≡_};
 ghost use Prim.Native.Nat.{_+_, _-_, _≤_, _<_};
 ghost use lib.ListN.{length};
 ghost use Rattle.owl.specs.Grammar.{checked};
-ghost use Rattle.owl_text.specs.Levels.{column, next, opener, inner, deeper, scan, inWindow, opening, Kept};
+ghost use Rattle.owl_text.specs.Levels.{column, moves, next, opener, inner, deeper, scan, inWindow, opening, Kept};
 
 // 0 and place 0; or 10 or 11, and where the token begins.
 pub struct Checked {
@@ -34,45 +34,46 @@ fn column(k: u8) -> u8
     columns[wide(k)]
 }
 
-// What a token of kind k does in state q.
-fn next(q: u8, k: u8) -> u8
-    requires { ⌜ k < 18 ⌝ }
+const MOVES: [[u8; 14]; 28] = [
+    [90, 90, 90, 90, 0, 1, 90, 90, 90, 90, 90, 90, 90, 90],
+    [90, 90, 90, 90, 90, 90, 90, 90, 90, 90, 90, 90, 90, 90],
+    [90, 3, 90, 90, 90, 90, 90, 90, 90, 90, 90, 90, 90, 90],
+    [90, 90, 90, 90, 90, 90, 90, 90, 90, 90, 90, 90, 4, 90],
+    [90, 90, 90, 5, 90, 90, 90, 90, 90, 90, 90, 90, 90, 90],
+    [90, 90, 90, 90, 90, 90, 90, 90, 90, 90, 90, 6, 90, 90],
+    [90, 90, 1, 90, 90, 90, 90, 90, 90, 90, 90, 90, 90, 90],
+    [90, 8, 90, 90, 90, 90, 90, 90, 90, 90, 90, 90, 90, 90],
+    [90, 90, 1, 90, 90, 90, 10, 90, 10, 90, 9, 9, 90, 91],
+    [90, 90, 1, 90, 90, 90, 10, 90, 10, 90, 10, 10, 90, 91],
+    [90, 90, 1, 90, 90, 90, 10, 90, 10, 90, 90, 90, 90, 91],
+    [90, 12, 90, 90, 90, 90, 90, 90, 90, 90, 90, 90, 90, 90],
+    [90, 90, 90, 90, 90, 90, 90, 6, 90, 90, 90, 90, 90, 91],
+    [90, 14, 90, 90, 90, 90, 90, 90, 90, 90, 90, 90, 90, 90],
+    [90, 90, 90, 90, 90, 90, 90, 90, 90, 90, 6, 6, 90, 90],
+    [90, 16, 90, 90, 90, 90, 90, 90, 90, 90, 90, 90, 90, 90],
+    [90, 90, 90, 90, 90, 90, 90, 90, 90, 17, 17, 17, 90, 91],
+    [90, 90, 90, 90, 90, 90, 90, 90, 90, 6, 6, 6, 90, 91],
+    [90, 19, 90, 90, 90, 90, 90, 90, 90, 90, 90, 90, 90, 90],
+    [90, 90, 90, 90, 90, 90, 90, 90, 90, 20, 20, 20, 90, 91],
+    [90, 90, 90, 90, 90, 90, 90, 90, 90, 21, 21, 21, 90, 91],
+    [90, 90, 1, 90, 90, 90, 90, 90, 90, 91, 91, 91, 90, 91],
+    [90, 23, 90, 90, 90, 90, 90, 90, 90, 90, 90, 90, 90, 90],
+    [90, 90, 90, 90, 90, 90, 90, 90, 90, 24, 24, 24, 90, 91],
+    [90, 90, 90, 90, 90, 90, 90, 90, 90, 25, 25, 25, 90, 91],
+    [90, 90, 1, 90, 90, 90, 90, 90, 90, 25, 25, 25, 90, 91],
+    [90, 27, 90, 90, 90, 90, 90, 90, 90, 90, 90, 90, 90, 90],
+    [90, 90, 90, 90, 90, 90, 90, 90, 90, 90, 17, 17, 90, 91],
+];
+
+// What a token of kind k does in state q. The table is lent, so that it is stored once for a whole text.
+fn next(table: &[[u8; 14]; 28], q: u8, k: u8) -> u8
+    requires { ⌜ (k < 18) × (now table ≡ moves) ⌝ }
     ensures { λ r. ⌜ (r ≡ next q k) × (r < 92) ⌝ }
 {
     if 27 < q {
         return 90;
     }
-    let moves = [
-        [90, 90, 90, 90, 0, 1, 90, 90, 90, 90, 90, 90, 90, 90],
-        [90, 90, 90, 90, 90, 90, 90, 90, 90, 90, 90, 90, 90, 90],
-        [90, 3, 90, 90, 90, 90, 90, 90, 90, 90, 90, 90, 90, 90],
-        [90, 90, 90, 90, 90, 90, 90, 90, 90, 90, 90, 90, 4, 90],
-        [90, 90, 90, 5, 90, 90, 90, 90, 90, 90, 90, 90, 90, 90],
-        [90, 90, 90, 90, 90, 90, 90, 90, 90, 90, 90, 6, 90, 90],
-        [90, 90, 1, 90, 90, 90, 90, 90, 90, 90, 90, 90, 90, 90],
-        [90, 8, 90, 90, 90, 90, 90, 90, 90, 90, 90, 90, 90, 90],
-        [90, 90, 1, 90, 90, 90, 10, 90, 10, 90, 9, 9, 90, 91],
-        [90, 90, 1, 90, 90, 90, 10, 90, 10, 90, 10, 10, 90, 91],
-        [90, 90, 1, 90, 90, 90, 10, 90, 10, 90, 90, 90, 90, 91],
-        [90, 12, 90, 90, 90, 90, 90, 90, 90, 90, 90, 90, 90, 90],
-        [90, 90, 90, 90, 90, 90, 90, 6, 90, 90, 90, 90, 90, 91],
-        [90, 14, 90, 90, 90, 90, 90, 90, 90, 90, 90, 90, 90, 90],
-        [90, 90, 90, 90, 90, 90, 90, 90, 90, 90, 6, 6, 90, 90],
-        [90, 16, 90, 90, 90, 90, 90, 90, 90, 90, 90, 90, 90, 90],
-        [90, 90, 90, 90, 90, 90, 90, 90, 90, 17, 17, 17, 90, 91],
-        [90, 90, 90, 90, 90, 90, 90, 90, 90, 6, 6, 6, 90, 91],
-        [90, 19, 90, 90, 90, 90, 90, 90, 90, 90, 90, 90, 90, 90],
-        [90, 90, 90, 90, 90, 90, 90, 90, 90, 20, 20, 20, 90, 91],
-        [90, 90, 90, 90, 90, 90, 90, 90, 90, 21, 21, 21, 90, 91],
-        [90, 90, 1, 90, 90, 90, 90, 90, 90, 91, 91, 91, 90, 91],
-        [90, 23, 90, 90, 90, 90, 90, 90, 90, 90, 90, 90, 90, 90],
-        [90, 90, 90, 90, 90, 90, 90, 90, 90, 24, 24, 24, 90, 91],
-        [90, 90, 90, 90, 90, 90, 90, 90, 90, 25, 25, 25, 90, 91],
-        [90, 90, 1, 90, 90, 90, 90, 90, 90, 25, 25, 25, 90, 91],
-        [90, 27, 90, 90, 90, 90, 90, 90, 90, 90, 90, 90, 90, 90],
-        [90, 90, 90, 90, 90, 90, 90, 90, 90, 90, 17, 17, 90, 91],
-    ];
-    moves[wide(q)][wide(column(k))]
+    table[wide(q)][wide(column(k))]
 }
 
 fn refusal(n: u8) -> u32
@@ -118,8 +119,8 @@ fn deeper(k: u8, depth: usize) -> usize
 }
 
 // The state of the level that a token stands in, if it is in the window.
-fn step_level(mark: u8, lo: usize, high: usize, depth: usize, k: u8) -> u8
-    requires { ⌜ k < 18 ⌝ }
+fn step_level(table: &[[u8; 14]; 28], mark: u8, lo: usize, high: usize, depth: usize, k: u8) -> u8
+    requires { ⌜ (k < 18) × (now table ≡ moves) ⌝ }
     ensures { λ r. ⌜ r ≡ inWindow lo high depth (next mark k) mark ⌝ }
 {
     if depth < lo {
@@ -128,7 +129,7 @@ fn step_level(mark: u8, lo: usize, high: usize, depth: usize, k: u8) -> u8
     if high < depth {
         return mark;
     }
-    next(mark, k)
+    next(table, mark, k)
 }
 
 // The state of the level that a token opens, if it is in the window.
@@ -148,8 +149,8 @@ fn open_level(mark: u8, lo: usize, high: usize, level: usize, k: u8) -> u8
 }
 
 // One reading from the start to `limit` that finds the states of the levels lo to high, 4,096 at most.
-fn refill(s: &[u8], limit: usize, high: usize, lo: usize) -> Row
-    requires { ⌜ (limit ≤ length (now s)) × (high < lo + 4096) ⌝ }
+fn refill(table: &[[u8; 14]; 28], s: &[u8], limit: usize, high: usize, lo: usize) -> Row
+    requires { ⌜ (limit ≤ length (now s)) × (high < lo + 4096) × (now table ≡ moves) ⌝ }
     ensures { λ r. ⌜ Kept lo high (r .kept) (λ i. scan (now (s .entry)) limit i (length (now (s .entry))) 0 0 0) ⌝ }
 {
     let mut kept = [0u8; 4096];
@@ -159,7 +160,7 @@ fn refill(s: &[u8], limit: usize, high: usize, lo: usize) -> Row
         let t = owl_token::token_at(s, at);
         let kind = t.kind;
         let here = depth % 4096;
-        kept[here] = step_level(kept[here], lo, high, depth, kind);
+        kept[here] = step_level(table, kept[here], lo, high, depth, kind);
         let behind = (depth + 1) % 4096;
         kept[behind] = open_level(kept[behind], lo, high, depth + 1, kind);
         depth = deeper(kind, depth);
@@ -193,6 +194,7 @@ fn raised(lo: usize, depth: usize) -> usize
 pub fn check(s: &[u8]) -> Checked
     ensures { λ r. ⌜ (r .number ≡ checked (now (s .entry)) .number) × (r .place ≡ checked (now (s .entry)) .place) ⌝ }
 {
+    let table = MOVES;
     let mut at = 0;
     let mut q = 0;
     let mut depth = 0;
@@ -214,7 +216,7 @@ pub fn check(s: &[u8]) -> Checked
                 place: s.len(),
             };
         }
-        let n = next(q, kind);
+        let n = next(&table, q, kind);
         if 79 < n {
             return Checked {
                 number: refusal(n),
@@ -235,7 +237,7 @@ pub fn check(s: &[u8]) -> Checked
             depth -= 1;
             if depth < lo {
                 lo = low(depth);
-                let row = refill(s, from, depth, lo);
+                let row = refill(&table, s, from, depth, lo);
                 kept = row.kept;
                 q = kept[depth % 4096];
             } else {

@@ -7,7 +7,7 @@
 --   running-start, running-stop, running-on, running-end == its turns
 --   close-start, close-stop, close-on, close-end == the loop up to `>`
 --   bytes-lengths, bytes-on, bytes-off, bytes-end == the loop over two lists of bytes
-use mathlib.Core.Path.{_≡_, refl, sym, ap, ap₂, subst, _∙_}
+use mathlib.Core.Path.{_≡_, refl, sym, ap, ap₂, _∙_}
 use mathlib.Core.Bool.{Bool, true, false, _&&_, _||_, not}
 use mathlib.Core.List.{[], List, _∷_}
 use Prim.Native.Nat.{ℕ, suc, _+_, _*_, _≤_, _<_}

@@ -1,7 +1,6 @@
 -- The table is the definition's.
 use mathlib.Core.Path.{_∙_}
 use native.Mathlib.Omega.{arith}
-use Rattle.owl_text.specs.Levels.{moves}
 use Rattle.owl_text.proofs.TableLaws as tables
 use borrow.Author.Needs.{needs}
 use Rattle.owl_text.proofs.next.Statement.{statement}
@@ -29,8 +28,7 @@ index-2-result : tie.Need-index-2-result
 index-2-result c = search needs
 
 returns-2 : tie.Need-returns-2
-unfolding moves
-returns-2 c = tables.next-in (c .before .before .before .wide .result) (c .before .wide2 .result) _ _ (c .before .before .before .wide .ensures) (c .before .wide2 .ensures ∙ c .before .before .column .ensures .0) (omega arith) (omega arith)
+returns-2 c = tables.next-lent _ (c .before .before .before .before .before .pre .1) (c .before .before .before .wide .result) (c .before .wide2 .result) _ _ (c .before .before .before .wide .ensures) (c .before .wide2 .ensures ∙ c .before .before .column .ensures .0) (omega arith) (omega arith)
 
 pub next-spec : {M : Type 1} → statement M
 next-spec =

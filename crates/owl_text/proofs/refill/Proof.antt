@@ -8,10 +8,10 @@ use Rattle.owl_text.proofs.refill.Statement.{statement}
 use Rattle.owl_text.proofs.refill.Tie as tie
 
 abbrev Inv-loop : tie.InvT-loop
-Inv-loop s limit high lo kept₀ at₀ depth₀ kept at depth = window.Filling s limit high lo at depth kept
+Inv-loop table s limit high lo kept₀ at₀ depth₀ kept at depth = window.Filling s limit high lo at depth kept
 
 abbrev μ-loop : tie.MeasureT-loop
-μ-loop s limit high lo kept₀ at₀ depth₀ kept at depth = length s - at
+μ-loop table s limit high lo kept₀ at₀ depth₀ kept at depth = length s - at
 
 loop-holds : tie.Need-loop-holds Inv-loop μ-loop
 loop-holds c = window.filling-start (c .before .args .s .now) (c .before .args .limit) (c .before .args .high) (c .before .args .lo) (let z : c .before .args .limit ≤ length (c .before .args .s .now) = omega arith in z)
@@ -23,7 +23,7 @@ array-read-step-level : tie.Need-array-read-step-level Inv-loop μ-loop
 array-read-step-level c = omega arith
 
 step-level-requires : tie.Need-step-level-requires Inv-loop μ-loop
-step-level-requires c κs = c .token-at .ensures .4
+step-level-requires c κs = (c .token-at .ensures .4, c .before .before .before .before .pre .2)
 
 array-write-kept : tie.Need-array-write-kept Inv-loop μ-loop
 array-write-kept c = omega arith

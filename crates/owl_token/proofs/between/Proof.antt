@@ -6,9 +6,6 @@ use Rattle.owl_token.proofs.RunLaws as laws
 use borrow.Author.Needs.{needs}
 use Rattle.owl_token.proofs.between.Statement.{statement}
 use Rattle.owl_token.proofs.between.Tie as tie
-use Rattle.owl_token.proofs.between.Reads as reads
-use Rattle.owl_token.proofs.between.Lts as lts
-use Rattle.owl_token.proofs.byte_class.Reads as byte-class-reads
 
 byte-class-requires : tie.Need-byte-class-requires
 byte-class-requires c κs = search needs

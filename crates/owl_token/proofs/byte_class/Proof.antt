@@ -5,8 +5,6 @@ use Rattle.owl.specs.Token.{isPlain, byteClass}
 use Rattle.owl_token.proofs.RunLaws as laws
 use Rattle.owl_token.proofs.byte_class.Statement.{statement}
 use Rattle.owl_token.proofs.byte_class.Tie as tie
-use Rattle.owl_token.proofs.byte_class.Reads as reads
-use Rattle.owl_token.proofs.byte_class.Lts as lts
 
 returns : tie.Need-returns
 returns c = (laws.class-lower (c .before .before .args .b) (c .before .if1 .taken) (c .if2 .taken), omega arith)

@@ -6,8 +6,6 @@ use Rattle.owl.specs.Token.{shapes}
 use Rattle.owl_token.proofs.RunLaws as laws
 use Rattle.owl_token.proofs.shaped.Statement.{statement}
 use Rattle.owl_token.proofs.shaped.Tie as tie
-use Rattle.owl_token.proofs.shaped.Reads as reads
-use Rattle.owl_token.proofs.shaped.Lts as lts
 
 returns : tie.Need-returns
 unfolding shapes allBelow laws.noneOf

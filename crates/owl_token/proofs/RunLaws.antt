@@ -7,18 +7,19 @@
 --   running-start, running-stop, running-on, running-end == its turns
 --   close-start, close-stop, close-on, close-end == the loop up to `>`
 --   bytes-lengths, bytes-on, bytes-off, bytes-end == the loop over two lists of bytes
-use mathlib.Core.Path.{_≡_, refl, sym, ap, ap₂, _∙_}
+use mathlib.Core.Path.{_≡_, refl, sym, ap, ap₂, subst, _∙_}
 use mathlib.Core.Bool.{Bool, true, false, _&&_, _||_, not}
 use mathlib.Core.List.{[], List, _∷_}
 use Prim.Native.Nat.{ℕ, suc, _+_, _*_, _≤_, _<_}
 use native.Mathlib.Omega.{arith}
-use lib.Dec.{T, eqb, eqb→eq, leb, le→leb, ltb, lt→ltb, ltb→lt, not-T}
+use lib.Dec.{T, eqb, eqb→eq, leb, le→leb, leb→le, ltb, lt→ltb, ltb→lt, not-T}
 use lib.ListN.{length, getD, take, drop, drop-of-length-le}
-use borrow.Author.Tests.{eq-eqb, ne-eqb, lt-ltb, le-ltb}
+use borrow.Author.Tests.{eq-eqb, ne-eqb, lt-ltb, le-ltb, le-leb, lt-leb}
 use Rattle.el.specs.Test.{allBelow}
 use Rattle.el.specs.TestLaws.{and-make, and-left, and-right, allBelow-at}
 use Rattle.owl.specs.Naming.{sameBytes}
 use Rattle.owl.specs.Token.{isPlain, byteClass, betweens, between, blank, runLength, shapes, shaped, shape, upToClose, markKinds, placeAt}
+use Rattle.owl_token.specs.Keyword.{isSmall}
 use Rattle.owl.specs.TokenLaws.{drop-cons, run-more}
 
 ----------------------------------------------------------------------------------------------------
@@ -140,6 +141,22 @@ mark-right w c e h =
       eqb→eq (getD markKinds w 0) (getD markKinds w 17) (and-left (eqb (getD markKinds w 0) (getD markKinds w 17)) (ltb (getD markKinds w 0) 18) t) ∙ ap (λ (k : ℕ). getD markKinds k 17) e,
       ltb→lt (getD markKinds w 0) 18 (and-right (eqb (getD markKinds w 0) (getD markKinds w 17)) (ltb (getD markKinds w 0) 18) t),
     )
+
+pub small-not : (b : ℕ) → b < 97 → false ≡ isSmall b
+unfolding isSmall
+small-not b h = sym (ap (λ (t : Bool). t && ltb b 123) (lt-leb 97 b h))
+
+pub small-rest : (b : ℕ) → 97 ≤ b → ltb b 123 ≡ isSmall b
+unfolding isSmall
+small-rest b h = sym (ap (λ (t : Bool). t && ltb b 123) (le-leb 97 b h))
+
+-- a small letter is of class 0
+pub small-class : (b : ℕ) → isSmall b ≡ true → 0 ≡ byteClass b
+unfolding isSmall
+small-class b e =
+    let t : T (leb 97 b && ltb b 123) = subst T (sym e) tt in
+    let h : 97 ≤ b = leb→le 97 b (and-left (leb 97 b) (ltb b 123) t) in
+    class-lower b h (ltb→lt b 123 (and-right (leb 97 b) (ltb b 123) t))
 
 ----------------------------------------------------------------------------------------------------
 -- Blanks and comments

@@ -4,7 +4,7 @@ ghost use Prim.Native.Nat.{_+_, _-_, _*_, _≤_, _<_};
 ghost use lib.ListN.{length, getD, drop, take};
 ghost use Rattle.owl.specs.Naming.{sameBytes};
 ghost use Rattle.owl.specs.Token.{byteClass, between, runLength, shapes, shape, upToClose, opensAfter, wordKind, runKind, markKinds, placeAt, kindAt, endAt};
-ghost use Rattle.owl_token.specs.Keyword.{keywordKind};
+ghost use Rattle.owl_token.specs.Keyword.{keywordKind, isSmall};
 
 // A token: its kind, where it begins and where the text goes on.
 pub struct Token {
@@ -178,6 +178,16 @@ fn shaped(m: u8, c: u8) -> u8
     2
 }
 
+// Small letters, of which texts mostly consist.
+fn is_small(b: u8) -> bool
+    ensures { λ r. ⌜ r ≡ isSmall b ⌝ }
+{
+    if b < 97 {
+        return false;
+    }
+    b < 123
+}
+
 // The run at a position: where it ends, and what it is.
 fn run_at(s: &[u8], at: usize) -> Run
     requires { ⌜ at ≤ length (now s) ⌝ }
@@ -186,12 +196,18 @@ fn run_at(s: &[u8], at: usize) -> Run
     let mut i = at;
     let mut m = 0;
     while i < s.len() {
-        let c = byte_class(s[i]);
-        if 4 < c {
-            return Run { end: i, shape: m };
+        let b = s[i];
+        if is_small(b) {
+            m = shaped(m, 0);
+            i += 1;
+        } else {
+            let c = byte_class(b);
+            if 4 < c {
+                return Run { end: i, shape: m };
+            }
+            m = shaped(m, c);
+            i += 1;
         }
-        m = shaped(m, c);
-        i += 1;
     }
     Run { end: i, shape: m }
 }

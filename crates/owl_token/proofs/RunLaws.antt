@@ -19,7 +19,7 @@ use Rattle.el.specs.Test.{allBelow}
 use Rattle.el.specs.TestLaws.{and-make, and-left, and-right, allBelow-at}
 use Rattle.owl.specs.Naming.{sameBytes}
 use Rattle.owl.specs.Token.{isPlain, byteClass, betweens, between, blank, runLength, shapes, shaped, shape, upToClose, markKinds, placeAt}
-use Rattle.owl_token.specs.Keyword.{isSmall}
+use Rattle.owl_token.specs.Keyword.{isSmall, endsLine}
 use Rattle.owl.specs.TokenLaws.{drop-cons, run-more}
 
 ----------------------------------------------------------------------------------------------------
@@ -96,29 +96,43 @@ class-low b h n =
     by-class (λ b. leb b 47 && noneOf (32 ∷ 40 ∷ 41 ∷ 10 ∷ 45 ∷ 46 ∷ 35 ∷ 13 ∷ 9 ∷ 34 ∷ []) b) 4 tt b (let z : b < 256 = omega arith in z)
     (and-make (leb b 47) (noneOf (32 ∷ 40 ∷ 41 ∷ 10 ∷ 45 ∷ 46 ∷ 35 ∷ 13 ∷ 9 ∷ 34 ∷ []) b) (le→leb b 47 h) (none-of (32 ∷ 40 ∷ 41 ∷ 10 ∷ 45 ∷ 46 ∷ 35 ∷ 13 ∷ 9 ∷ 34 ∷ []) b n))
 
--- by the class k of a byte, between tokens (c is 0) and in a comment (c is 1)
-between-at : (c b k v : ℕ) → k ≡ byteClass b → v ≡ getD betweens (c * 14 + k) 0 → v ≡ between c b
-unfolding between
-between-at c b k v e d = d ∙ ap (λ (j : ℕ). getD betweens (c * 14 + j) 0) e
+pub line-feed : (b : ℕ) → b ≡ 10 → true ≡ endsLine b
+unfolding endsLine
+line-feed b e = sym (ap (λ (t : Bool). t || eqb b 13) (eq-eqb b 10 e))
 
-pub between-is : (c b k m n v : ℕ) → k ≡ byteClass b → c ≡ m → k ≡ n → v ≡ getD betweens (m * 14 + n) 0 → v ≡ between c b
-between-is c b k m n v e f g d = between-at c b k v e (d ∙ ap₂ (λ (i j : ℕ). getD betweens (i * 14 + j) 0) (sym f) (sym g))
+pub line-other : (b : ℕ) → (b ≡ 10 → ⊥) → eqb b 13 ≡ endsLine b
+unfolding endsLine
+line-other b h = sym (ap (λ (t : Bool). t || eqb b 13) (ne-eqb b 10 h))
 
--- for the classes that are not asked for
-by-between : (l : List ℕ) (m v : ℕ) → T (allBelow 14 (λ k. not (noneOf l k) || eqb (getD betweens (m * 14 + k) 0) v)) → (k : ℕ) → k < 14 → NoneOf l k → v ≡ getD betweens (m * 14 + k) 0
-by-between l m v t k h n = go (noneOf l k) (none-of l k n) (allBelow-at 14 k (λ k. not (noneOf l k) || eqb (getD betweens (m * 14 + k) 0) v) t h)
+-- one computed test gives what every byte that passes p does
+by-between : (p : ℕ → ℕ → Bool) (v : ℕ) → T (allBelow 2 (λ c. allBelow 256 (λ b. not (p c b) || eqb (between c b) v))) → (c b : ℕ) → c < 2 → b < 256 → T (p c b) → v ≡ between c b
+by-between p v t c b h k u =
+    go (p c b) u (allBelow-at 256 b (λ b. not (p c b) || eqb (between c b) v) (allBelow-at 2 c (λ c. allBelow 256 (λ b. not (p c b) || eqb (between c b) v)) t h) k)
   where
-    go : (q : Bool) → T q → T (not q || eqb (getD betweens (m * 14 + k) 0) v) → v ≡ getD betweens (m * 14 + k) 0
-    go true u w = sym (eqb→eq (getD betweens (m * 14 + k) 0) v w)
+    go : (q : Bool) → T q → T (not q || eqb (between c b) v) → v ≡ between c b
+    go true u w = sym (eqb→eq (between c b) v w)
     go false u w = absurd u
 
-pub between-comment : (c b k : ℕ) → k ≡ byteClass b → k < 14 → c ≡ 1 → (k ≡ 6 → ⊥) → 1 ≡ between c b
-unfolding betweens allBelow noneOf
-between-comment c b k e h f n = between-at c b k 1 e (by-between (6 ∷ []) 1 1 tt k h (n, tt) ∙ ap (λ (i : ℕ). getD betweens (i * 14 + k) 0) (sym f))
+pub between-line : (c b : ℕ) → c < 2 → b < 256 → endsLine b ≡ true → 0 ≡ between c b
+unfolding between betweens byteClass isPlain allBelow endsLine
+between-line c b h k e = by-between (λ c b. eqb b 10 || eqb b 13) 0 tt c b h k (subst T (sym e) tt)
 
-pub between-token : (c b k : ℕ) → k ≡ byteClass b → k < 14 → c ≡ 0 → (k ≡ 5 → ⊥) → (k ≡ 6 → ⊥) → (k ≡ 7 → ⊥) → 2 ≡ between c b
-unfolding betweens allBelow noneOf
-between-token c b k e h f m n o = between-at c b k 2 e (by-between (5 ∷ 6 ∷ 7 ∷ []) 0 2 tt k h (m, (n, (o, tt))) ∙ ap (λ (i : ℕ). getD betweens (i * 14 + k) 0) (sym f))
+pub between-comment : (c b : ℕ) → c < 2 → b < 256 → endsLine b ≡ false → c ≡ 1 → 1 ≡ between c b
+unfolding between betweens byteClass isPlain allBelow endsLine
+between-comment c b h k e f =
+    by-between (λ c b. not (eqb b 10 || eqb b 13) && eqb c 1) 1 tt c b h k
+    (and-make (not (eqb b 10 || eqb b 13)) (eqb c 1) (subst (λ (t : Bool). T (not t)) (sym e) tt) (subst T (sym (eq-eqb c 1 f)) tt))
+
+-- between tokens: one of these bytes, or none of them
+pub between-is : (c b n v : ℕ) → c < 2 → (c ≡ 1 → ⊥) → between 0 n ≡ v → b ≡ n → v ≡ between c b
+between-is c b n v h f e d = sym (ap₂ between (let z : c ≡ 0 = omega arith in z) d ∙ e)
+
+pub between-token : (c b : ℕ) → c < 2 → b < 256 → endsLine b ≡ false → (c ≡ 1 → ⊥) → NoneOf (32 ∷ 9 ∷ 35 ∷ []) b → 2 ≡ between c b
+unfolding between betweens byteClass isPlain allBelow endsLine noneOf
+between-token c b h k e f n =
+    by-between (λ c b. not (eqb b 10 || eqb b 13) && (eqb c 0 && noneOf (32 ∷ 9 ∷ 35 ∷ []) b)) 2 tt c b h k
+    (and-make (not (eqb b 10 || eqb b 13)) (eqb c 0 && noneOf (32 ∷ 9 ∷ 35 ∷ []) b) (subst (λ (t : Bool). T (not t)) (sym e) tt)
+    (and-make (eqb c 0) (noneOf (32 ∷ 9 ∷ 35 ∷ []) b) (subst T (sym (eq-eqb c 0 (let z : c ≡ 0 = omega arith in z))) tt) (none-of (32 ∷ 9 ∷ 35 ∷ []) b n)))
 
 -- one computed test gives the shape after every mode and class that pass p
 by-shape : (p : ℕ → ℕ → Bool) (v : ℕ) → T (allBelow 6 (λ m. allBelow 5 (λ c. not (p m c) || eqb (getD shapes (m * 5 + c) 5) v))) → (m c : ℕ) → m < 6 → c < 5 → T (p m c) → v ≡ getD shapes (m * 5 + c) 5

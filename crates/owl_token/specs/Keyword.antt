@@ -2,10 +2,11 @@
 --
 --   keywordKind w == the kind of a listed word, 0 for any other
 --   isSmall b     == the byte b is a small letter
-use mathlib.Core.Bool.{Bool, true, false, _&&_}
+--   endsLine b    == the byte b is a line feed or a carriage return
+use mathlib.Core.Bool.{Bool, true, false, _&&_, _||_}
 use mathlib.Core.List.{List}
 use Prim.Native.Nat.{ℕ, _+_}
-use lib.Dec.{leb, ltb}
+use lib.Dec.{eqb, leb, ltb}
 use Rattle.owl.specs.Once.{isAmong, place}
 use Rattle.owl.specs.Naming.{sameBytes}
 use Rattle.owl.specs.Token.{keywords}
@@ -15,3 +16,6 @@ keywordKind w = elim (isAmong sameBytes w keywords) [ true ↦ 4 + place sameByt
 
 unfoldable pub isSmall : ℕ → Bool
 isSmall b = leb 97 b && ltb b 123
+
+unfoldable pub endsLine : ℕ → Bool
+endsLine b = eqb b 10 || eqb b 13

@@ -4,7 +4,7 @@ ghost use Prim.Native.Nat.{_+_, _-_, _*_, _≤_, _<_};
 ghost use lib.ListN.{length, getD, drop, take};
 ghost use Rattle.owl.specs.Naming.{sameBytes};
 ghost use Rattle.owl.specs.Token.{byteClass, between, runLength, shapes, shape, upToClose, opensAfter, wordKind, runKind, markKinds, placeAt, kindAt, endAt};
-ghost use Rattle.owl_token.specs.Keyword.{keywordKind, isSmall};
+ghost use Rattle.owl_token.specs.Keyword.{keywordKind, isSmall, endsLine};
 
 // A token: its kind, where it begins and where the text goes on.
 pub struct Token {
@@ -97,24 +97,32 @@ fn byte_class(b: u8) -> u8
     4
 }
 
+fn ends_line(b: u8) -> bool
+    ensures { λ r. ⌜ r ≡ endsLine b ⌝ }
+{
+    if b == 10 {
+        return true;
+    }
+    b == 13
+}
+
 fn between(c: u8, b: u8) -> u8
     requires { ⌜ c < 2 ⌝ }
     ensures { λ r. ⌜ (r ≡ between c b) × (r < 3) ⌝ }
 {
-    let k = byte_class(b);
+    if ends_line(b) {
+        return 0;
+    }
     if c == 1 {
-        if k == 6 {
-            return 0;
-        }
         return 1;
     }
-    if k == 5 {
+    if b == 32 {
         return 0;
     }
-    if k == 6 {
+    if b == 9 {
         return 0;
     }
-    if k == 7 {
+    if b == 35 {
         return 1;
     }
     2

@@ -7,6 +7,7 @@
 --   accepted-means   == the number is 0 exactly if the text says some file
 --   refused-means    == else the place is that of the first token that spoils it, or its length where the end does
 --   first-spoiled    == the token that spoils it, if there is one, is the one whose place is given
+--   eleven-text      == a text with number 11 has at that place a word before `(` that is not listed, or a third operand of EquivalentClasses
 use mathlib.Core.Path.{_≡_, refl, sym, ap, subst, _∙_}
 use mathlib.Core.Bool.{Bool, true, false, _||_, true≢false}
 use mathlib.Core.Logic.{_⊎_, inl, inr, _↔_}
@@ -23,7 +24,7 @@ use Rattle.owl.specs.Token.{placeAt, kindAt, endAt}
 use Rattle.owl.specs.TokenLaws.{end-le, progress, more}
 use Rattle.owl.specs.Written.{Token, kind, tokenOf, tokenAt, tokensFrom, tokens, placesFrom, tokenPlace, writtenFile, Says}
 use Rattle.owl.specs.Grammar.{Slot, leftS, rightS, equalsS, labelS, targetS, nameS, roleS, entityS, ontologyS, classS, classesS, noThirdS, headS, versionS, itemsS, prefixesS, inside, Move, stop, on, isName, beginsClass, beginsItem, unlisted, takes, takesOr, takesMore, expect, mayEnd, start, walk, Verdict, verdict, check, checked, Begins}
-use Rattle.owl.specs.SlotLaws.{stop-on, on-inj, startsWith, starts-means, fit}
+use Rattle.owl.specs.SlotLaws.{stop-on, on-inj, startsWith, starts-means, fit, fit-walk}
 use Rattle.owl.specs.GrammarLaws.{sound, complete, extends, spoiled}
 
 ----------------------------------------------------------------------------------------------------
@@ -375,3 +376,41 @@ eleven-means k (itemsS ∷ ss) h e =
 eleven-means k (prefixesS ∷ ss) h e =
     inl (or-eleven (eqb k 4) k (prefixesS ∷ ss) (expect k ss)
     (λ d. not-behind ontologyS k ss (apart ontologyS (λ z. z) ss) (and-left (startsWith ontologyS ss) (fit ss) h) (eleven-means k ss (and-right (startsWith ontologyS ss) (fit ss) h) d)) e)
+
+-- the token at which the machine stops, and what was still to come there
+stop-at : (ts : List Token) (i : ℕ) (ss us : List Slot) (n : ℕ) (d : Token) → i < length ts → walk (take i ts) ss ≡ on us → walk (take (suc i) ts) ss ≡ stop n → expect (kind (getD ts i d)) us ≡ stop n
+unfolding walk
+stop-at [] i ss us n d h e f = absurd (let z : ⊥ = omega arith in z)
+stop-at (t ∷ ts) zero ss us n d h e f = go (expect (kind t) ss) refl f
+  where
+    go : (m : Move) → expect (kind t) ss ≡ m → elim m [ stop j ↦ stop j | on xs ↦ on (inside (kind t) ++ xs) ] ≡ stop n → expect (kind t) us ≡ stop n
+    go (stop j) c f = ap (expect (kind t)) (sym (on-inj ss us e)) ∙ c ∙ f
+    go (on xs) c f = stop-on n (inside (kind t) ++ xs) (sym f)
+stop-at (t ∷ ts) (suc i) ss us n d h e f = go (expect (kind t) ss) e f (λ xs. stop-at ts i (inside (kind t) ++ xs) us n d (let z : i < length ts = omega arith in z))
+  where
+    go : (m : Move) → elim m [ stop j ↦ stop j | on xs ↦ walk (take i ts) (inside (kind t) ++ xs) ] ≡ on us → elim m [ stop j ↦ stop j | on xs ↦ walk (take (suc i) ts) (inside (kind t) ++ xs) ] ≡ stop n →
+        ((xs : List Slot) → walk (take i ts) (inside (kind t) ++ xs) ≡ on us → walk (take (suc i) ts) (inside (kind t) ++ xs) ≡ stop n → expect (kind (getD ts i d)) us ≡ stop n) → expect (kind (getD ts i d)) us ≡ stop n
+    go (stop j) e f g = stop-on j us e
+    go (on xs) e f g = g xs e f
+
+-- the slots us are still to come, and the token is not listed or a third operand
+abbrev pub Unlisted : Token → List Slot → Type 0
+Unlisted t us = T (eqb (kind t) 16) ⊎ (T (beginsClass (kind t)) × T (startsWith noThirdS us))
+
+pub eleven-text : (s : List ℕ) (d : Token) → checked s .number ≡ 11 →
+    (i : ℕ) × (checked s .place ≡ tokenPlace s i) × (us : List Slot) × (walk (take i (tokens s)) start ≡ on us) × Unlisted (getD (tokens s) i d) us
+unfolding tokenPlace
+eleven-text s d e = go (found s)
+  where
+    go : Found (tokens s) (placesFrom s (suc (length s)) 0) (length s) start (checked s) →
+        (i : ℕ) × (checked s .place ≡ getD (placesFrom s (suc (length s)) 0) i (length s)) × (us : List Slot) × (walk (take i (tokens s)) start ≡ on us) × Unlisted (getD (tokens s) i d) us
+    go (inl (us, w, h, v)) = absurd (let z : 0 ≡ checked s .number = ap (λ (x : Verdict). x .number) (sym v) in let y : ⊥ = omega arith in y)
+    go (inr (inl (us, w, h, v))) = absurd (let z : 10 ≡ checked s .number = ap (λ (x : Verdict). x .number) (sym v) in let y : ⊥ = omega arith in y)
+    go (inr (inr (i, n, us, l, w, h, v))) =
+        let z : n ≡ 11 = ap (λ (x : Verdict). x .number) (sym v) ∙ e in (
+          i,
+          ap (λ (x : Verdict). x .place) v,
+          us,
+          w,
+          eleven-means (kind (getD (tokens s) i d)) us (fit-walk (take i (tokens s)) start us w tt) (stop-at (tokens s) i start us n d l w h ∙ ap stop z),
+        )

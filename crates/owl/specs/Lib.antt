@@ -19,3 +19,4 @@ pub mod TokenLaws
 pub mod TextLaws
 pub mod UniqueLaws
 pub mod TextCases
+pub mod Theorem

@@ -1,0 +1,377 @@
+// The tokens of a text. There is no token list: a token is found from a position, by its bytes alone.
+ghost use mathlib.Core.Path.{_≡_};
+ghost use Prim.Native.Nat.{_+_, _-_, _*_, _≤_, _<_};
+ghost use lib.ListN.{length, getD, drop, take};
+ghost use Rattle.owl.specs.Naming.{sameBytes};
+ghost use Rattle.owl.specs.Token.{byteClass, between, runLength, shapes, shape, upToClose, opensAfter, wordKind, runKind, markKinds, placeAt, kindAt, endAt};
+ghost use Rattle.owl_token.specs.Keyword.{keywordKind, isSmall, endsLine};
+
+// A token: its kind, where it begins and where the text goes on.
+pub struct Token {
+    pub kind: u8,
+    pub place: usize,
+    pub end: usize,
+}
+
+pub struct Run {
+    pub end: usize,
+    pub shape: u8,
+}
+
+fn wide(x: u8) -> usize
+    ensures { λ r. ⌜ r ≡ x ⌝ }
+{
+    x as usize
+}
+
+// The common bytes are asked for first.
+fn byte_class(b: u8) -> u8
+    ensures { λ r. ⌜ (r ≡ byteClass b) × (r < 14) ⌝ }
+{
+    if 96 < b {
+        if b < 123 {
+            return 0;
+        }
+        if b < 128 {
+            return 4;
+        }
+        return 0;
+    }
+    if 64 < b {
+        if b < 91 {
+            return 0;
+        }
+        if b == 95 {
+            return 1;
+        }
+        return 4;
+    }
+    if 47 < b {
+        if b < 58 {
+            return 0;
+        }
+        if b == 58 {
+            return 3;
+        }
+        if b == 60 {
+            return 11;
+        }
+        if b == 61 {
+            return 10;
+        }
+        if b == 62 {
+            return 12;
+        }
+        return 4;
+    }
+    if b == 32 {
+        return 5;
+    }
+    if b == 40 {
+        return 8;
+    }
+    if b == 41 {
+        return 9;
+    }
+    if b == 10 {
+        return 6;
+    }
+    if b == 45 {
+        return 2;
+    }
+    if b == 46 {
+        return 2;
+    }
+    if b == 35 {
+        return 7;
+    }
+    if b == 13 {
+        return 6;
+    }
+    if b == 9 {
+        return 5;
+    }
+    if b == 34 {
+        return 13;
+    }
+    4
+}
+
+fn ends_line(b: u8) -> bool
+    ensures { λ r. ⌜ r ≡ endsLine b ⌝ }
+{
+    if b == 10 {
+        return true;
+    }
+    b == 13
+}
+
+fn between(c: u8, b: u8) -> u8
+    requires { ⌜ c < 2 ⌝ }
+    ensures { λ r. ⌜ (r ≡ between c b) × (r < 3) ⌝ }
+{
+    if ends_line(b) {
+        return 0;
+    }
+    if c == 1 {
+        return 1;
+    }
+    if b == 32 {
+        return 0;
+    }
+    if b == 9 {
+        return 0;
+    }
+    if b == 35 {
+        return 1;
+    }
+    2
+}
+
+// Where the next token begins.
+fn skip(s: &[u8], at: usize) -> usize
+    requires { ⌜ at ≤ length (now s) ⌝ }
+    ensures { λ r. ⌜ (r ≡ placeAt (now (s .entry)) at) × (r ≤ length (now (s .entry))) ⌝ }
+{
+    let mut i = at;
+    let mut c = 0;
+    while i < s.len() {
+        c = between(c, s[i]);
+        if c == 2 {
+            return i;
+        }
+        i += 1;
+    }
+    i
+}
+
+// The shape of a run after one more byte.
+fn shaped(m: u8, c: u8) -> u8
+    requires { ⌜ (m < 6) × (c < 5) ⌝ }
+    ensures { λ r. ⌜ (r ≡ getD shapes (m * 5 + c) 5) × (r < 6) ⌝ }
+{
+    if c == 4 {
+        return 5;
+    }
+    if m == 4 {
+        return 4;
+    }
+    if m == 2 {
+        if c == 3 {
+            return 3;
+        }
+        return 2;
+    }
+    if m == 5 {
+        return 5;
+    }
+    if m == 3 {
+        if c == 2 {
+            return 5;
+        }
+        return 4;
+    }
+    if c == 3 {
+        if m == 1 {
+            return 5;
+        }
+        return 3;
+    }
+    if m == 1 {
+        return 2;
+    }
+    if c == 1 {
+        return 1;
+    }
+    2
+}
+
+// Small letters, of which texts mostly consist.
+fn is_small(b: u8) -> bool
+    ensures { λ r. ⌜ r ≡ isSmall b ⌝ }
+{
+    if b < 97 {
+        return false;
+    }
+    b < 123
+}
+
+// The run at a position: where it ends, and what it is.
+fn run_at(s: &[u8], at: usize) -> Run
+    requires { ⌜ at ≤ length (now s) ⌝ }
+    ensures { λ r. ⌜ (r .end ≡ at + runLength (drop at (now (s .entry)))) × (r .end ≤ length (now (s .entry))) × (r .shape ≡ shape 0 (take (runLength (drop at (now (s .entry)))) (drop at (now (s .entry))))) × (r .shape < 6) ⌝ }
+{
+    let mut i = at;
+    let mut m = 0;
+    while i < s.len() {
+        let b = s[i];
+        if is_small(b) {
+            m = shaped(m, 0);
+            i += 1;
+        } else {
+            let c = byte_class(b);
+            if 4 < c {
+                return Run { end: i, shape: m };
+            }
+            m = shaped(m, c);
+            i += 1;
+        }
+    }
+    Run { end: i, shape: m }
+}
+
+fn same_bytes(a: &[u8], b: &[u8]) -> bool
+    ensures { λ r. ⌜ r ≡ sameBytes (now (a .entry)) (now (b .entry)) ⌝ }
+{
+    if a.len() != b.len() {
+        return false;
+    }
+    let mut i = 0;
+    while i < a.len() {
+        if a[i] != b[i] {
+            return false;
+        }
+        i += 1;
+    }
+    true
+}
+
+// The kind of a listed word, 0 for any other.
+fn keyword(w: &[u8]) -> u8
+    ensures { λ r. ⌜ (r ≡ keywordKind (now (w .entry))) × (r < 13) ⌝ }
+{
+    if same_bytes(w, b"Prefix") {
+        return 4;
+    }
+    if same_bytes(w, b"Ontology") {
+        return 5;
+    }
+    if same_bytes(w, b"Declaration") {
+        return 6;
+    }
+    if same_bytes(w, b"Class") {
+        return 7;
+    }
+    if same_bytes(w, b"ObjectProperty") {
+        return 8;
+    }
+    if same_bytes(w, b"SubClassOf") {
+        return 9;
+    }
+    if same_bytes(w, b"EquivalentClasses") {
+        return 10;
+    }
+    if same_bytes(w, b"ObjectIntersectionOf") {
+        return 11;
+    }
+    if same_bytes(w, b"ObjectSomeValuesFrom") {
+        return 12;
+    }
+    0
+}
+
+// How far the first `>` is.
+fn close_at(s: &[u8], at: usize) -> usize
+    requires { ⌜ at ≤ length (now s) ⌝ }
+    ensures { λ r. ⌜ (r ≡ at + upToClose (drop at (now (s .entry)))) × (r ≤ length (now (s .entry))) ⌝ }
+{
+    let mut i = at;
+    while i < s.len() {
+        if s[i] == 62 {
+            return i;
+        }
+        i += 1;
+    }
+    i
+}
+
+fn mark_kind(c: u8) -> u8
+    requires { ⌜ c < 14 ⌝ }
+    ensures { λ r. ⌜ (r ≡ getD markKinds c 17) × (r < 18) ⌝ }
+{
+    let kinds = [17, 17, 17, 17, 17, 17, 17, 17, 1, 2, 3, 17, 17, 17];
+    kinds[wide(c)]
+}
+
+// Whether the next token is `(`.
+fn opens_after(s: &[u8], at: usize) -> bool
+    requires { ⌜ at ≤ length (now s) ⌝ }
+    ensures { λ r. ⌜ r ≡ opensAfter (drop at (now (s .entry))) ⌝ }
+{
+    let p = skip(s, at);
+    if s.len() <= p {
+        return false;
+    }
+    s[p] == 40
+}
+
+fn word_kind(s: &[u8], place: usize, end: usize) -> u8
+    requires { ⌜ (place ≤ end) × (end ≤ length (now s)) ⌝ }
+    ensures { λ r. ⌜ (r ≡ wordKind (take (end - place) (drop place (now (s .entry)))) (opensAfter (drop end (now (s .entry))))) × (r < 18) ⌝ }
+{
+    let k = keyword(&s[place..end]);
+    if k != 0 {
+        return k;
+    }
+    if opens_after(s, end) {
+        return 16;
+    }
+    17
+}
+
+fn run_kind(s: &[u8], place: usize, run: Run) -> u8
+    requires { ⌜ (place ≤ run .end) × (run .end ≤ length (now s)) × (run .shape ≡ shape 0 (take (run .end - place) (drop place (now s)))) ⌝ }
+    ensures { λ r. ⌜ (r ≡ runKind (take (run .end - place) (drop place (now (s .entry)))) (opensAfter (drop (run .end) (now (s .entry))))) × (r < 18) ⌝ }
+{
+    if run.shape == 3 {
+        return 15;
+    }
+    if run.shape == 4 {
+        return 13;
+    }
+    if run.shape == 5 {
+        return 17;
+    }
+    word_kind(s, place, run.end)
+}
+
+pub fn token_at(s: &[u8], at: usize) -> Token
+    requires { ⌜ at ≤ length (now s) ⌝ }
+    ensures { λ r. ⌜ (r .kind ≡ kindAt (now (s .entry)) at) × (r .place ≡ placeAt (now (s .entry)) at) × (r .end ≡ endAt (now (s .entry)) at) × (r .end ≤ length (now (s .entry))) × (r .kind < 18) ⌝ }
+{
+    let place = skip(s, at);
+    if s.len() <= place {
+        return Token {
+            kind: 0,
+            place,
+            end: place,
+        };
+    }
+    let c = byte_class(s[place]);
+    if c < 5 {
+        let run = run_at(s, place);
+        let end = run.end;
+        let kind = run_kind(s, place, run);
+        return Token { kind, place, end };
+    }
+    if c == 11 {
+        let close = close_at(s, place + 1);
+        if close < s.len() {
+            return Token {
+                kind: 14,
+                place,
+                end: close + 1,
+            };
+        }
+        return Token {
+            kind: 17,
+            place,
+            end: place + 1,
+        };
+    }
+    Token {
+        kind: mark_kind(c),
+        place,
+        end: place + 1,
+    }
+}

@@ -17,6 +17,7 @@ pub mod SlotLaws
 pub mod GrammarLaws
 pub mod TokenLaws
 pub mod TextLaws
+pub mod ElevenLaws
 pub mod UniqueLaws
 pub mod TextCases
 pub mod Theorem

@@ -39,7 +39,8 @@ use Rattle.el.specs.Table.{Entry, Row, Line, Table, rowAt, roleOrder}
 use Rattle.el.specs.Assignment.{isVariable, path, reaches, acyclic}
 use Rattle.el.specs.Walk.{Node, entriesVariables, lineVariables, settled, fails}
 use Rattle.table.specs.Code.{entryOf}
-use Rattle.table.specs.Reading.{reading, isReadable, tableOf, maxAtoms, maxLines, headerOf}
+use Rattle.bounds.specs.Bounds.{maxAtoms, maxLines}
+use Rattle.table.specs.Reading.{reading, isReadable, tableOf, headerOf}
 use Rattle.table.specs.Layout.{lineAt, lineStart}
 use Rattle.node.specs.declared.Sets.{Sets}
 

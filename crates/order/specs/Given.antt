@@ -22,7 +22,8 @@ use Rattle.el.specs.Assignment.{Assignment, acyclic}
 use Rattle.table.specs.declared.Kind.{Kind}
 use Rattle.table.specs.declared.Kind.the-variants.{Top, Constant, Restriction, Variable, Other}
 use Rattle.table.specs.Code.{kindOf, fillerOf, entryOf}
-use Rattle.table.specs.Reading.{maxAtoms, maxVariables, reading, isReadable, tableOf, headerOf}
+use Rattle.bounds.specs.Bounds.{maxAtoms, maxVariables}
+use Rattle.table.specs.Reading.{reading, isReadable, tableOf, headerOf}
 use Rattle.table.specs.Layout.{lineStart, IsRowFiller}
 use Rattle.order.specs.Rule.{setTest, fillerTest}
 

@@ -23,7 +23,8 @@ use Rattle.table.specs.declared.Step.{Step}
 use Rattle.table.specs.declared.Step.the-variants.{Next, Stop}
 use Rattle.table.specs.declared.Verdict.the-variants.{Refused, Readable}
 use Rattle.table.specs.Code.{kindOf, within, fillerOfKind, fillerOf, entryOfKind, entryOf}
-use Rattle.table.specs.Reading.{Read, refused, got, refuseIf, andThen, orRefused, byteAt, Header, headerOf, marked, versionOne, readHeader, readMany, readRow, readRows, readEntry, readEntries, readLine, readLines, readBody, whole, fromHeader, reading, maxAtoms, maxRoles, maxVariables, maxLines, maxLeft}
+use Rattle.bounds.specs.Bounds.{maxAtoms, maxRoles, maxVariables, maxLines, maxLeft}
+use Rattle.table.specs.Reading.{Read, refused, got, refuseIf, andThen, orRefused, byteAt, Header, headerOf, marked, versionOne, readHeader, readMany, readRow, readRows, readEntry, readEntries, readLine, readLines, readBody, whole, fromHeader, reading}
 use Rattle.table.specs.Step.{isSome, stepOf, verdictOf}
 use Rattle.table.specs.LayoutLaws.{header-read}
 

@@ -19,7 +19,8 @@ use lib.Dec.{T, leb}
 use lib.ListN.{length}
 use Rattle.el.specs.Test.{everyOf}
 use Rattle.el.specs.Table.{Filler, topF, constantF, variableF, Entry, constant, restriction, variable, Row, Line, Table, rowDeclared, lineDeclared}
-use Rattle.table.specs.Reading.{Header, tableWith, maxAtoms, maxRoles, maxVariables, maxLines, maxLeft}
+use Rattle.bounds.specs.Bounds.{maxAtoms, maxRoles, maxVariables, maxLines, maxLeft}
+use Rattle.table.specs.Reading.{Header, tableWith}
 
 -- "0x00 top; 0x20+k constant k; 0x40+k restriction k; 0x60+k variable k"
 unfoldable pub fillerCode : Filler → ℕ

@@ -31,7 +31,8 @@ use Rattle.table.specs.declared.Kind.{Kind}
 use Rattle.table.specs.declared.Kind.the-variants.{Top, Constant, Restriction, Variable, Other}
 use Rattle.table.specs.Code.{kindOf, within, fillerOfKind, fillerOf, entryOfKind, entryOf}
 use Rattle.table.specs.CodeLaws.{codeOf, kind-code, code-kind, within-some, within-is, filler-declared, entry-declared}
-use Rattle.table.specs.Reading.{Read, refused, got, refuseIf, andThen, orRefused, readMany, byteAt, missing, Header, headerOf, marked, versionOne, readHeader, readRow, readRows, readEntry, readEntries, readLine, readLines, readBody, tableWith, Reading, refusal, readable, whole, fromHeader, reading, maxAtoms, maxRoles, maxVariables, maxLines, maxLeft}
+use Rattle.bounds.specs.Bounds.{maxAtoms, maxRoles, maxVariables, maxLines, maxLeft}
+use Rattle.table.specs.Reading.{Read, refused, got, refuseIf, andThen, orRefused, readMany, byteAt, missing, Header, headerOf, marked, versionOne, readHeader, readRow, readRows, readEntry, readEntries, readLine, readLines, readBody, tableWith, Reading, refusal, readable, whole, fromHeader, reading}
 use Rattle.table.specs.ManyLaws.{refused-got, refuse-got, then-got, got-same, Many, many-got, many-whole, many-stopped, Stands, stands-then, many-written, many-read}
 use Rattle.table.specs.LayoutLaws.{row-read, entry-read, header-read}
 use Rattle.table.specs.Bytes.{fillerCode, entryCode, writtenHeader, writtenRow, writtenEntry, writtenLine, bytesWith, countsOf, bytesOf, Within, lineRight, Right, Fits, IsTable}

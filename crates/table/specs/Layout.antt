@@ -12,7 +12,8 @@ use lib.Dec.{T}
 use lib.ListN.{length, getD}
 use Rattle.el.specs.Table.{constant, Line, Table, rowAt, declared}
 use Rattle.table.specs.Code.{fillerOf, entryOf}
-use Rattle.table.specs.Reading.{byteAt, maxAtoms, maxRoles, maxVariables, maxLines, maxLeft, headerOf, tableOf}
+use Rattle.bounds.specs.Bounds.{maxAtoms, maxRoles, maxVariables, maxLines, maxLeft}
+use Rattle.table.specs.Reading.{byteAt, headerOf, tableOf}
 
 unfoldable pub lineAt : List Line → ℕ → Line
 lineAt lines n = getD lines n (record { left = []; right = constant 0 })

@@ -34,7 +34,8 @@ use Rattle.table.specs.declared.Verdict.the-variants.{Refused, Readable}
 use Rattle.table.specs.Code.{fillerOf, entryOf}
 use Rattle.table.specs.CodeLaws.{filler-declared, entry-declared}
 use Rattle.table.specs.ManyLaws.{refuse-got, then-got, or-got, got-same, along, many-got, many-each}
-use Rattle.table.specs.Reading.{Read, refused, got, refuseIf, andThen, orRefused, byteAt, missing, Header, headerOf, marked, versionOne, readHeader, readRow, readRows, readEntry, readEntries, readLine, readLines, readBody, tableWith, Reading, refusal, readable, whole, fromHeader, reading, theTable, tableOf, isReadable, maxAtoms, maxRoles, maxVariables, maxLines, maxLeft}
+use Rattle.bounds.specs.Bounds.{maxAtoms, maxRoles, maxVariables, maxLines, maxLeft}
+use Rattle.table.specs.Reading.{Read, refused, got, refuseIf, andThen, orRefused, byteAt, missing, Header, headerOf, marked, versionOne, readHeader, readRow, readRows, readEntry, readEntries, readLine, readLines, readBody, tableWith, Reading, refusal, readable, whole, fromHeader, reading, theTable, tableOf, isReadable}
 use Rattle.table.specs.Step.{verdictOf}
 use Rattle.table.specs.Layout.{lineAt, lineStart, Layout}
 

@@ -17,7 +17,8 @@ use lib.Seq.{take-all, length-take-le, getD-take, take-append-add}
 use Rattle.el.specs.Test.{everyOf}
 use Rattle.el.specs.TestLaws.{and-left, and-right}
 use Rattle.el.specs.Table.{topF, restriction, Entry, Row, Line, Table, lineDeclared}
-use Rattle.table.specs.Reading.{byteAt, Header, headerOf, marked, versionOne, tableWith, Reading, refusal, readable, reading, tableOf, isReadable, maxLeft}
+use Rattle.bounds.specs.Bounds.{maxLeft}
+use Rattle.table.specs.Reading.{byteAt, Header, headerOf, marked, versionOne, tableWith, Reading, refusal, readable, reading, tableOf, isReadable}
 use Rattle.table.specs.Bytes.{fillerCode, entryCode, writtenHeader, writtenRow, writtenEntry, writtenLine, bytesWith, countsOf, bytesOf, lineRight, Right, Fits}
 use Rattle.table.specs.BytesLaws.{readable-is-written, written-is-readable}
 use Rattle.table.specs.Refusal.{Slot, aRole, aFiller, aCount, anEntry, nothing, Begins, Over, RefusedAt, header-cut, wrong-mark, wrong-version, over-bound, over-left, ends-early, not-allowed, bytes-after}

@@ -1,6 +1,5 @@
 -- What a list of bytes says: a refusal with its number and place, or a table.
 --
---   maxAtoms, maxRoles, maxVariables, maxLines, maxLeft == the bounds 24, 16, 12, 64, 8
 --   Read A               == a refusal (number, place), or something read and the place after it
 --   refuseIf t n p x     == the refusal n at p where the test t passes, else x
 --   byteAt s i           == byte i
@@ -19,23 +18,8 @@ use Prim.Native.Nat.{ℕ, zero, suc, _+_}
 use lib.Dec.{eqb, leb, ltb}
 use lib.ListN.{length, getD}
 use Rattle.el.specs.Table.{Entry, Row, Line, Table}
+use Rattle.bounds.specs.Bounds.{maxAtoms, maxRoles, maxVariables, maxLines, maxLeft}
 use Rattle.table.specs.Code.{fillerOf, entryOf}
-
--- "Bounds: c + e at most 24, r at most 16, v at most 12, m at most 64, p at most 8."
-abbrev pub maxAtoms : ℕ
-maxAtoms = 24
-
-abbrev pub maxRoles : ℕ
-maxRoles = 16
-
-abbrev pub maxVariables : ℕ
-maxVariables = 12
-
-abbrev pub maxLines : ℕ
-maxLines = 64
-
-abbrev pub maxLeft : ℕ
-maxLeft = 8
 
 pub data Read (A : Type 0) : Type 0 where
   refused : ℕ → ℕ → Read A

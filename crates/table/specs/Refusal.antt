@@ -15,7 +15,8 @@ use lib.ListN.{length}
 use Rattle.el.specs.Test.{everyOf}
 use Rattle.el.specs.Table.{Entry, Row, Line, entryDeclared}
 use Rattle.table.specs.Code.{fillerOf, entryOf}
-use Rattle.table.specs.Reading.{Header, headerOf, marked, versionOne, tableWith, maxAtoms, maxRoles, maxVariables, maxLines, maxLeft}
+use Rattle.bounds.specs.Bounds.{maxAtoms, maxRoles, maxVariables, maxLines, maxLeft}
+use Rattle.table.specs.Reading.{Header, headerOf, marked, versionOne, tableWith}
 use Rattle.table.specs.Bytes.{writtenEntry, bytesWith, Right}
 
 -- "restriction rows of two bytes: a role, less than r, and a filler code"; "lines, each a left count p, p atom codes, and one

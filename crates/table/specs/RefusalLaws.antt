@@ -21,7 +21,8 @@ use Rattle.el.specs.Test.{everyOf}
 use Rattle.el.specs.TestLaws.{is-true, is-false, true-is, false-not, and-make}
 use Rattle.el.specs.Table.{Filler, Entry, Row, Line, Table, rowDeclared, entryDeclared}
 use Rattle.table.specs.Code.{fillerOf, entryOf}
-use Rattle.table.specs.Reading.{Read, refused, got, refuseIf, andThen, orRefused, byteAt, readMany, missing, Header, headerOf, marked, versionOne, readHeader, readRow, readRows, readEntry, readEntries, readLine, readLines, readBody, tableWith, Reading, refusal, readable, whole, fromHeader, reading, maxAtoms, maxRoles, maxVariables, maxLines, maxLeft}
+use Rattle.bounds.specs.Bounds.{maxAtoms, maxRoles, maxVariables, maxLines, maxLeft}
+use Rattle.table.specs.Reading.{Read, refused, got, refuseIf, andThen, orRefused, byteAt, readMany, missing, Header, headerOf, marked, versionOne, readHeader, readRow, readRows, readEntry, readEntries, readLine, readLines, readBody, tableWith, Reading, refusal, readable, whole, fromHeader, reading}
 use Rattle.table.specs.ManyLaws.{refused-got, got-same, Many, many-got, many-whole, many-stopped, Stopped, many-refused, Stands, stands-then, many-written, many-read}
 use Rattle.table.specs.Bytes.{writtenHeader, writtenRow, writtenEntry, writtenLine, bytesWith, Within, lineRight, Right}
 use Rattle.table.specs.BytesLaws.{if-passed, if-refused, here-byte, here-end, byte-here, row-stands, entry-stands, entry-reads, line-stands, header-stands, header-then, header-first, rows-first, lines-next, behind-lines, lines-end, rowsEnd, linesEnd, theRest, stopped-in-rows, stopped-in-lines, stopped-behind}

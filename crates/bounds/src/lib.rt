@@ -1,0 +1,26 @@
+// The bounds of a table, and the types that hold what they bound. No other crate writes these numbers.
+
+// A set of atoms: bit i says that atom i is in.
+pub type SetNumber = u32;
+
+// A mask with a bit for each variable.
+pub type VariableMask = u32;
+
+// A mask with a bit for each restriction row, as wide as a set number, so that it can be held against one.
+pub type RowMask = SetNumber;
+
+// How many nodes, and how many are allowed.
+pub type Count = u32;
+
+pub const MAX_ATOMS: usize = 24;
+
+pub const MAX_ROLES: u8 = 16;
+
+pub const MAX_VARIABLES: usize = 12;
+
+pub const MAX_LINES: usize = 64;
+
+pub const MAX_LEFT: usize = 8;
+
+// The bytes of a set number in the output.
+pub const SET_BYTES: usize = 4;

@@ -1,79 +1,61 @@
 -- Laws of the loops that read a text byte by byte, and of their tables.
 --
---   class-.., between-.., shape-by    == what the tests on a byte, a class and a mode say
---   mark-right                        == what stands in a table
+--   value-at, value-by, tests-agree   == what one computed test says of a byte
+--   class-.., full-byte, mark-none, between-.. == what the tests on a byte say
+--   shape-digit, shape-keeps          == the shape after a byte, and after a second plain one
 --   skip-start, skip-stop, skip-on, skip-end     == the loop over blanks and comments
 --   Running                                      == the loop over a run: its end, and its shape so far
---   running-start, running-stop, running-on, running-end == its turns
+--   running-start, running-stop, running-on, running-plain, running-end == its turns
+--   plain-next                                   == the loop over plain bytes
 --   close-start, close-stop, close-on, close-end == the loop up to `>`
 --   bytes-lengths, bytes-on, bytes-off, bytes-end == the loop over two lists of bytes
 use mathlib.Core.Path.{_≡_, refl, sym, ap, ap₂, subst, _∙_}
 use mathlib.Core.Bool.{Bool, true, false, _&&_, _||_, not}
 use mathlib.Core.List.{[], List, _∷_}
-use Prim.Native.Nat.{ℕ, suc, _+_, _*_, _≤_, _<_}
+use Prim.Native.Nat.{ℕ, zero, suc, _+_, _-_, _*_, _/_, _%_, _^_, _≤_, _<_}
 use native.Mathlib.Omega.{arith}
+use native.Mathlib.Decide.{decLt}
 use lib.Dec.{T, eqb, eqb→eq, leb, le→leb, leb→le, ltb, lt→ltb, ltb→lt, not-T}
 use lib.ListN.{length, getD, take, drop, drop-of-length-le}
 use borrow.Author.Tests.{eq-eqb, ne-eqb, lt-ltb, le-ltb, le-leb, lt-leb}
 use Rattle.el.specs.Test.{allBelow}
-use Rattle.el.specs.TestLaws.{and-make, and-left, and-right, allBelow-at}
+use Rattle.el.specs.TestLaws.{is-true, true-is, and-make, and-left, and-right, allBelow-at}
 use Rattle.owl.specs.Naming.{sameBytes}
 use Rattle.owl.specs.Token.{isPlain, byteClass, betweens, between, blank, runLength, shapes, shaped, shape, upToClose, markKinds, placeAt}
-use Rattle.owl_token.specs.Keyword.{isSmall, endsLine}
+use Rattle.owl_token.specs.Keyword.{endsLine, AllPlain}
 use Rattle.owl.specs.TokenLaws.{drop-cons, run-more}
 
 ----------------------------------------------------------------------------------------------------
 -- Tables
 
--- one computed test gives the class of every byte that passes p
-by-class : (p : ℕ → Bool) (v : ℕ) → T (allBelow 256 (λ k. not (p k) || eqb (byteClass k) v)) → (b : ℕ) → b < 256 → T (p b) → v ≡ byteClass b
-by-class p v t b h k = go (p b) k (allBelow-at 256 b (λ k. not (p k) || eqb (byteClass k) v) t h)
+-- one computed test says of every byte that passes p that it passes q
+by-byte : (p q : ℕ → Bool) → T (allBelow 256 (λ k. not (p k) || q k)) → (b : ℕ) → b < 256 → T (p b) → T (q b)
+by-byte p q t b h k = go (p b) k (allBelow-at 256 b (λ k. not (p k) || q k) t h)
   where
-    go : (q : Bool) → T q → T (not q || eqb (byteClass b) v) → v ≡ byteClass b
-    go true u w = sym (eqb→eq (byteClass b) v w)
+    go : (r : Bool) → T r → T (not r || q b) → T (q b)
+    go true u w = w
     go false u w = absurd u
 
-pub class-is : (n v b : ℕ) → byteClass n ≡ v → b ≡ n → v ≡ byteClass b
-class-is n v b e d = sym (ap byteClass d ∙ e)
+-- the value of f at such a byte, and at one byte
+value-by : (f : ℕ → ℕ) (p : ℕ → Bool) (v : ℕ) → T (allBelow 256 (λ k. not (p k) || eqb (f k) v)) → (b : ℕ) → b < 256 → T (p b) → v ≡ f b
+value-by f p v t b h k = sym (eqb→eq (f b) v (by-byte p (λ k. eqb (f k) v) t b h k))
+
+pub value-at : (f : ℕ → ℕ) (n v b : ℕ) → f n ≡ v → b ≡ n → v ≡ f b
+value-at f n v b e d = sym (ap f d ∙ e)
+
+-- two tests agree on the bytes from lo to hi
+pub tests-agree : (lo hi : ℕ) (p q : ℕ → Bool) → T (allBelow 256 (λ k. not (leb lo k && leb k hi) || elim (p k) [ true ↦ q k | false ↦ not (q k) ])) →
+    (b : ℕ) → lo ≤ b → b ≤ hi → b < 256 → p b ≡ q b
+tests-agree lo hi p q t b l h k =
+    agree (p b) (q b) (by-byte (λ k. leb lo k && leb k hi) (λ k. elim (p k) [ true ↦ q k | false ↦ not (q k) ]) t b k (and-make (leb lo b) (leb b hi) (le→leb lo b l) (le→leb b hi h)))
+  where
+    agree : (x y : Bool) → T (elim x [ true ↦ y | false ↦ not y ]) → x ≡ y
+    agree true y u = sym (is-true y u)
+    agree false true u = absurd u
+    agree false false u = refl
 
 is-not : (b n : ℕ) → (b ≡ n → ⊥) → T (not (eqb b n))
 is-not b n h = not-T (eqb b n) (λ t. h (eqb→eq b n t))
-
-pub class-lower : (b : ℕ) → 96 < b → b < 123 → 0 ≡ byteClass b
-unfolding byteClass isPlain allBelow
-class-lower b h k = by-class (λ b. ltb 96 b && ltb b 123) 0 tt b (let z : b < 256 = omega arith in z) (and-make (ltb 96 b) (ltb b 123) (lt→ltb 96 b h) (lt→ltb b 123 k))
-
-pub class-brace : (b : ℕ) → 123 ≤ b → b < 128 → 4 ≡ byteClass b
-unfolding byteClass isPlain allBelow
-class-brace b h k = by-class (λ b. leb 123 b && ltb b 128) 4 tt b (let z : b < 256 = omega arith in z) (and-make (leb 123 b) (ltb b 128) (le→leb 123 b h) (lt→ltb b 128 k))
-
-pub class-high : (b : ℕ) → 128 ≤ b → b < 256 → 0 ≡ byteClass b
-unfolding byteClass isPlain allBelow
-class-high b h k = by-class (λ b. leb 128 b) 0 tt b k (le→leb 128 b h)
-
-pub class-upper : (b : ℕ) → 64 < b → b < 91 → 0 ≡ byteClass b
-unfolding byteClass isPlain allBelow
-class-upper b h k = by-class (λ b. ltb 64 b && ltb b 91) 0 tt b (let z : b < 256 = omega arith in z) (and-make (ltb 64 b) (ltb b 91) (lt→ltb 64 b h) (lt→ltb b 91 k))
-
-pub class-bracket : (b : ℕ) → 91 ≤ b → b ≤ 96 → (b ≡ 95 → ⊥) → 4 ≡ byteClass b
-unfolding byteClass isPlain allBelow
-class-bracket b h k n =
-    by-class (λ b. leb 91 b && (leb b 96 && not (eqb b 95))) 4 tt b (let z : b < 256 = omega arith in z)
-    (and-make (leb 91 b) (leb b 96 && not (eqb b 95)) (le→leb 91 b h) (and-make (leb b 96) (not (eqb b 95)) (le→leb b 96 k) (is-not b 95 n)))
-
-pub class-digit : (b : ℕ) → 47 < b → b < 58 → 0 ≡ byteClass b
-unfolding byteClass isPlain allBelow
-class-digit b h k = by-class (λ b. ltb 47 b && ltb b 58) 0 tt b (let z : b < 256 = omega arith in z) (and-make (ltb 47 b) (ltb b 58) (lt→ltb 47 b h) (lt→ltb b 58 k))
-
--- the bytes between the digits and the letters, but for those that have a class of their own
-pub class-between : (b : ℕ) → 58 ≤ b → b ≤ 64 → (b ≡ 58 → ⊥) → (b ≡ 60 → ⊥) → (b ≡ 61 → ⊥) → (b ≡ 62 → ⊥) → 4 ≡ byteClass b
-unfolding byteClass isPlain allBelow
-class-between b h k m n o p =
-    by-class (λ b. leb 58 b && (leb b 64 && (not (eqb b 58) && (not (eqb b 60) && (not (eqb b 61) && not (eqb b 62)))))) 4 tt b (let z : b < 256 = omega arith in z)
-    (and-make (leb 58 b) (leb b 64 && (not (eqb b 58) && (not (eqb b 60) && (not (eqb b 61) && not (eqb b 62))))) (le→leb 58 b h)
-    (and-make (leb b 64) (not (eqb b 58) && (not (eqb b 60) && (not (eqb b 61) && not (eqb b 62)))) (le→leb b 64 k)
-    (and-make (not (eqb b 58)) (not (eqb b 60) && (not (eqb b 61) && not (eqb b 62))) (is-not b 58 m)
-    (and-make (not (eqb b 60)) (not (eqb b 61) && not (eqb b 62)) (is-not b 60 n) (and-make (not (eqb b 61)) (not (eqb b 62)) (is-not b 61 o) (is-not b 62 p))))))
 
 -- none of the listed bytes
 unfoldable pub noneOf : List ℕ → ℕ → Bool
@@ -89,12 +71,48 @@ unfolding noneOf
 none-of [] b h = tt
 none-of (n ∷ l) b h = and-make (not (eqb b n)) (noneOf l b) (is-not b n (h .0)) (none-of l b (h .1))
 
--- the other bytes below the digits
-pub class-low : (b : ℕ) → b ≤ 47 → NoneOf (32 ∷ 40 ∷ 41 ∷ 10 ∷ 45 ∷ 46 ∷ 35 ∷ 13 ∷ 9 ∷ 34 ∷ []) b → 4 ≡ byteClass b
+-- a byte of a run that is not plain and none of `:` `-` `.` `_`
+pub class-odd : (b : ℕ) → b < 256 → isPlain b ≡ false → ltb (byteClass b) 5 ≡ true → NoneOf (58 ∷ 45 ∷ 46 ∷ 95 ∷ []) b → 4 ≡ byteClass b
 unfolding byteClass isPlain allBelow noneOf
-class-low b h n =
-    by-class (λ b. leb b 47 && noneOf (32 ∷ 40 ∷ 41 ∷ 10 ∷ 45 ∷ 46 ∷ 35 ∷ 13 ∷ 9 ∷ 34 ∷ []) b) 4 tt b (let z : b < 256 = omega arith in z)
-    (and-make (leb b 47) (noneOf (32 ∷ 40 ∷ 41 ∷ 10 ∷ 45 ∷ 46 ∷ 35 ∷ 13 ∷ 9 ∷ 34 ∷ []) b) (le→leb b 47 h) (none-of (32 ∷ 40 ∷ 41 ∷ 10 ∷ 45 ∷ 46 ∷ 35 ∷ 13 ∷ 9 ∷ 34 ∷ []) b n))
+class-odd b h e d n =
+    value-by byteClass (λ b. not (isPlain b) && (ltb (byteClass b) 5 && noneOf (58 ∷ 45 ∷ 46 ∷ 95 ∷ []) b)) 4 tt b h
+    (and-make (not (isPlain b)) (ltb (byteClass b) 5 && noneOf (58 ∷ 45 ∷ 46 ∷ 95 ∷ []) b) (subst (λ (t : Bool). T (not t)) (sym e) tt)
+    (and-make (ltb (byteClass b) 5) (noneOf (58 ∷ 45 ∷ 46 ∷ 95 ∷ []) b) (true-is (ltb (byteClass b) 5) d) (none-of (58 ∷ 45 ∷ 46 ∷ 95 ∷ []) b n)))
+
+pub plain-class : (b : ℕ) → isPlain b ≡ true → 0 ≡ byteClass b
+unfolding byteClass
+plain-class b e = rw (e, byteClass)
+
+-- `<` alone begins a full name
+pub full-byte : (b : ℕ) → b < 256 → eqb b 60 ≡ eqb (byteClass b) 11
+unfolding byteClass isPlain allBelow
+full-byte b h = tests-agree 0 255 (λ k. eqb k 60) (λ k. eqb (byteClass k) 11) tt b (omega arith) (omega arith) h
+
+-- a byte that is no mark
+pub mark-none : (b : ℕ) → b < 256 → NoneOf (40 ∷ 41 ∷ 61 ∷ []) b → 17 ≡ getD markKinds (byteClass b) 17
+unfolding byteClass isPlain allBelow noneOf markKinds
+mark-none b h n = value-by (λ k. getD markKinds (byteClass k) 17) (noneOf (40 ∷ 41 ∷ 61 ∷ [])) 17 tt b h (none-of (40 ∷ 41 ∷ 61 ∷ []) b n)
+
+-- the shape after a byte of class c is a digit of the number of c
+pub shape-digit : (w m c : ℕ) → w ≡ c → m < 6 → c < 5 →
+    (getD (0x544222 ∷ 0x544221 ∷ 0x545222 ∷ 0x544353 ∷ 0x555555 ∷ []) w 0 / 2 ^ (4 * m) % 16 ≡ getD shapes (m * 5 + c) 5)
+    × (getD (0x544222 ∷ 0x544221 ∷ 0x545222 ∷ 0x544353 ∷ 0x555555 ∷ []) w 0 / 2 ^ (4 * m) % 16 < 6)
+unfolding shapes allBelow
+shape-digit w m c e h k =
+    let digit : ℕ → ℕ → ℕ = λ m c. getD (0x544222 ∷ 0x544221 ∷ 0x545222 ∷ 0x544353 ∷ 0x555555 ∷ []) c 0 / 2 ^ (4 * m) % 16 in
+    let p : ℕ → ℕ → Bool = λ m c. eqb (digit m c) (getD shapes (m * 5 + c) 5) && ltb (digit m c) 6 in
+    let t : T (p m c) = allBelow-at 5 c (p m) (allBelow-at 6 m (λ m. allBelow 5 (p m)) tt h) k in
+    subst (λ (w : ℕ). (digit m w ≡ getD shapes (m * 5 + c) 5) × (digit m w < 6)) (sym e) (
+      eqb→eq (digit m c) (getD shapes (m * 5 + c) 5) (and-left (eqb (digit m c) (getD shapes (m * 5 + c) 5)) (ltb (digit m c) 6) t),
+      ltb→lt (digit m c) 6 (and-right (eqb (digit m c) (getD shapes (m * 5 + c) 5)) (ltb (digit m c) 6) t),
+    )
+
+-- a second plain byte does not change the shape
+pub shape-keeps : (m n : ℕ) → m < 6 → n ≡ getD shapes (m * 5 + 0) 5 → n ≡ getD shapes (n * 5 + 0) 5
+unfolding shapes allBelow
+shape-keeps m n h e =
+    let after : ℕ → ℕ = λ k. getD shapes (k * 5 + 0) 5 in
+    e ∙ sym (eqb→eq (after (after m)) (after m) (allBelow-at 6 m (λ m. eqb (after (after m)) (after m)) tt h)) ∙ ap after (sym e)
 
 pub line-feed : (b : ℕ) → b ≡ 10 → true ≡ endsLine b
 unfolding endsLine
@@ -134,44 +152,6 @@ between-token c b h k e f n =
     (and-make (not (eqb b 10 || eqb b 13)) (eqb c 0 && noneOf (32 ∷ 9 ∷ 35 ∷ []) b) (subst (λ (t : Bool). T (not t)) (sym e) tt)
     (and-make (eqb c 0) (noneOf (32 ∷ 9 ∷ 35 ∷ []) b) (subst T (sym (eq-eqb c 0 (let z : c ≡ 0 = omega arith in z))) tt) (none-of (32 ∷ 9 ∷ 35 ∷ []) b n)))
 
--- one computed test gives the shape after every mode and class that pass p
-by-shape : (p : ℕ → ℕ → Bool) (v : ℕ) → T (allBelow 6 (λ m. allBelow 5 (λ c. not (p m c) || eqb (getD shapes (m * 5 + c) 5) v))) → (m c : ℕ) → m < 6 → c < 5 → T (p m c) → v ≡ getD shapes (m * 5 + c) 5
-by-shape p v t m c h k u =
-    go (p m c) u
-    (allBelow-at 5 c (λ c. not (p m c) || eqb (getD shapes (m * 5 + c) 5) v) (allBelow-at 6 m (λ m. allBelow 5 (λ c. not (p m c) || eqb (getD shapes (m * 5 + c) 5) v)) t h) k)
-  where
-    go : (q : Bool) → T q → T (not q || eqb (getD shapes (m * 5 + c) 5) v) → v ≡ getD shapes (m * 5 + c) 5
-    go true u w = sym (eqb→eq (getD shapes (m * 5 + c) 5) v w)
-    go false u w = absurd u
-
--- m is one of ms, or anything where that is empty; c is none of cs
-pub shape-by : (v : ℕ) (ns cs : List ℕ) (m c : ℕ) → T (allBelow 6 (λ m. allBelow 5 (λ c. not (noneOf ns m && noneOf cs c) || eqb (getD shapes (m * 5 + c) 5) v))) → m < 6 → c < 5 → NoneOf ns m → NoneOf cs c → v ≡ getD shapes (m * 5 + c) 5
-shape-by v ns cs m c t h k x y = by-shape (λ m c. noneOf ns m && noneOf cs c) v t m c h k (and-make (noneOf ns m) (noneOf cs c) (none-of ns m x) (none-of cs c y))
-
-pub mark-right : (w c : ℕ) → w ≡ c → w < 14 → (getD markKinds w 0 ≡ getD markKinds c 17) × (getD markKinds w 0 < 18)
-unfolding markKinds allBelow
-mark-right w c e h =
-    let t = allBelow-at 14 w (λ k. eqb (getD markKinds k 0) (getD markKinds k 17) && ltb (getD markKinds k 0) 18) tt h in (
-      eqb→eq (getD markKinds w 0) (getD markKinds w 17) (and-left (eqb (getD markKinds w 0) (getD markKinds w 17)) (ltb (getD markKinds w 0) 18) t) ∙ ap (λ (k : ℕ). getD markKinds k 17) e,
-      ltb→lt (getD markKinds w 0) 18 (and-right (eqb (getD markKinds w 0) (getD markKinds w 17)) (ltb (getD markKinds w 0) 18) t),
-    )
-
-pub small-not : (b : ℕ) → b < 97 → false ≡ isSmall b
-unfolding isSmall
-small-not b h = sym (ap (λ (t : Bool). t && ltb b 123) (lt-leb 97 b h))
-
-pub small-rest : (b : ℕ) → 97 ≤ b → ltb b 123 ≡ isSmall b
-unfolding isSmall
-small-rest b h = sym (ap (λ (t : Bool). t && ltb b 123) (le-leb 97 b h))
-
--- a small letter is of class 0
-pub small-class : (b : ℕ) → isSmall b ≡ true → 0 ≡ byteClass b
-unfolding isSmall
-small-class b e =
-    let t : T (leb 97 b && ltb b 123) = subst T (sym e) tt in
-    let h : 97 ≤ b = leb→le 97 b (and-left (leb 97 b) (ltb b 123) t) in
-    class-lower b h (ltb→lt b 123 (and-right (leb 97 b) (ltb b 123) t))
-
 ----------------------------------------------------------------------------------------------------
 -- Blanks and comments
 
@@ -205,12 +185,9 @@ pub running-start : (s : List ℕ) (at : ℕ) → at ≤ length s → Running s 
 running-start s at h = (omega arith, h, omega arith, refl, refl)
 
 -- a byte that is not of a run ends it
-run-none : (b : ℕ) (l : List ℕ) → 5 ≤ byteClass b → runLength (b ∷ l) ≡ 0
+run-stops : (s : List ℕ) (i : ℕ) → i < length s → ltb (byteClass (getD s i 0)) 5 ≡ false → runLength (drop i s) ≡ 0
 unfolding runLength
-run-none b l h = ap (λ (t : Bool). elim t [ true ↦ suc (runLength l) | false ↦ 0 ]) (le-ltb (byteClass b) 5 h)
-
-run-stops : (s : List ℕ) (i : ℕ) → i < length s → 5 ≤ byteClass (getD s i 0) → runLength (drop i s) ≡ 0
-run-stops s i h e = ap runLength (drop-cons s i h) ∙ run-none (getD s i 0) (drop (i + 1) s) e
+run-stops s i h e = ap runLength (drop-cons s i h) ∙ ap (λ (t : Bool). elim t [ true ↦ suc (runLength (drop (i + 1) s)) | false ↦ 0 ]) e
 
 run-over : (s : List ℕ) (i : ℕ) → length s ≤ i → runLength (drop i s) ≡ 0
 unfolding runLength
@@ -226,9 +203,9 @@ ended s at i m e (a, b, c, f, g) = (
   c,
 )
 
-pub running-stop : (s : List ℕ) (at i m c : ℕ) → i < length s → c ≡ byteClass (getD s i 0) → 4 < c → Running s at i m →
+pub running-stop : (s : List ℕ) (at i m : ℕ) → i < length s → ltb (byteClass (getD s i 0)) 5 ≡ false → Running s at i m →
     (i ≡ at + runLength (drop at s)) × (i ≤ length s) × (m ≡ shape 0 (take (runLength (drop at s)) (drop at s))) × (m < 6)
-running-stop s at i m c h e l r = ended s at i m (run-stops s i h (let z : 5 ≤ byteClass (getD s i 0) = omega arith in z)) r
+running-stop s at i m h e r = ended s at i m (run-stops s i h e) r
 
 pub running-end : (s : List ℕ) (at i m : ℕ) → length s ≤ i → Running s at i m →
     (i ≡ at + runLength (drop at s)) × (i ≤ length s) × (m ≡ shape 0 (take (runLength (drop at s)) (drop at s))) × (m < 6)
@@ -249,6 +226,23 @@ running-on s at i m c n h e l d k (a, b, x, f, g) =
       g ∙ ap (λ (w : List ℕ). shape m (take (runLength w) w)) (drop-cons s i h) ∙ ap (λ (j : ℕ). shape m (take j (byte ∷ rest))) more
           ∙ ap (λ (j : ℕ). shape j (take (runLength rest) rest)) (ap (λ (j : ℕ). getD shapes (m * 5 + j) 5) (sym e) ∙ sym d),
     )
+
+pub plain-next : (s : List ℕ) (a i : ℕ) → i < length s → isPlain (getD s i 0) ≡ true → AllPlain s a i → AllPlain s a (i + 1)
+plain-next s a i h e (l, k, f) = (omega arith, omega arith, λ j p q. go j p (decLt j i) q)
+  where
+    go : (j : ℕ) → a ≤ j → Dec (j < i) → j < i + 1 → isPlain (getD s j 0) ≡ true
+    go j p (yes q) u = f j p q
+    go j p (no q) u = subst (λ (k : ℕ). isPlain (getD s k 0) ≡ true) (let z : i ≡ j = omega arith in z) e
+
+pub running-plain : (s : List ℕ) (at i r n : ℕ) → AllPlain s i r → n ≡ getD shapes (n * 5 + 0) 5 → Running s at i n → Running s at r n
+running-plain s at i r n p d x = go (r - i) r (let z : r ≡ i + (r - i) = omega arith in z) p
+  where
+    go : (k r : ℕ) → r ≡ i + k → AllPlain s i r → Running s at r n
+    go zero r e p = subst (λ (j : ℕ). Running s at j n) (let z : i ≡ r = omega arith in z) x
+    go (suc k) r e (a, b, f) =
+        subst (λ (j : ℕ). Running s at j n) (let z : i + k + 1 ≡ r = omega arith in z)
+        (running-on s at (i + k) n 0 n (omega arith) (plain-class (getD s (i + k) 0) (f (i + k) (omega arith) (omega arith))) (omega arith) d (x .2)
+        (go k (i + k) refl (omega arith, omega arith, λ j l h. f j l (omega arith))))
 
 ----------------------------------------------------------------------------------------------------
 -- Up to `>`

@@ -116,37 +116,34 @@ module _ (s : List ℕ) (at p : ℕ) (e : p ≡ placeAt s at) where
     end-here = ap (λ (l : List ℕ). p + sizeOf l) (sym (drop-cons s p h)) ∙ end-from
 
     -- a run of n bytes, which ends at q
-    pub run-kind : (n q : ℕ) → byteClass here < 5 → n ≡ runLength (drop p s) → q ≡ p + n → runKind (take (q - p) (drop p s)) (opensAfter (drop q s)) ≡ kindAt s at
+    pub run-kind : (n q : ℕ) → ltb (byteClass here) 5 ≡ true → n ≡ runLength (drop p s) → q ≡ p + n → runKind (take (q - p) (drop p s)) (opensAfter (drop q s)) ≡ kindAt s at
     unfolding kindOf
     run-kind n q f g d =
         let z : q - p ≡ n = omega arith in
         ap₂ (λ (a : List ℕ) (b : List ℕ). runKind a (opensAfter b)) (ap (λ (k : ℕ). take k (drop p s)) (z ∙ g))
         (ap (λ (k : ℕ). drop k s) (d ∙ ap (λ (k : ℕ). p + k) g) ∙ sym (drop-drop (runLength (drop p s)) p s))
         ∙ ap (λ (l : List ℕ). runKind (take (runLength l) l) (opensAfter (drop (runLength l) l))) (drop-cons s p h)
-        ∙ (let y : runKind (take (runLength (here ∷ drop (p + 1) s)) (here ∷ drop (p + 1) s)) (opensAfter (drop (runLength (here ∷ drop (p + 1) s)) (here ∷ drop (p + 1) s))) ≡ kindOf (here ∷ drop (p + 1) s) = rw (lt-ltb (byteClass here) 5 f, kindOf) in y)
+        ∙ (let y : runKind (take (runLength (here ∷ drop (p + 1) s)) (here ∷ drop (p + 1) s)) (opensAfter (drop (runLength (here ∷ drop (p + 1) s)) (here ∷ drop (p + 1) s))) ≡ kindOf (here ∷ drop (p + 1) s) = rw (f, kindOf) in y)
         ∙ kind-here
 
-    pub run-size : (n : ℕ) → byteClass here < 5 → n ≡ runLength (drop p s) → p + n ≡ endAt s at
+    pub run-size : (n : ℕ) → ltb (byteClass here) 5 ≡ true → n ≡ runLength (drop p s) → p + n ≡ endAt s at
     unfolding sizeOf
     run-size n f g =
         ap (λ (k : ℕ). p + k) (g ∙ ap runLength (drop-cons s p h)
-        ∙ (let y : runLength (here ∷ drop (p + 1) s) ≡ sizeOf (here ∷ drop (p + 1) s) = rw (lt-ltb (byteClass here) 5 f, sizeOf) in y))
+        ∙ (let y : runLength (here ∷ drop (p + 1) s) ≡ sizeOf (here ∷ drop (p + 1) s) = rw (f, sizeOf) in y))
         ∙ end-here
 
-    module _ (big : 5 ≤ byteClass here) where
-      not-run : ltb (byteClass here) 5 ≡ false
-      not-run = le-ltb (byteClass here) 5 big
-
-      at-full : byteClass here ≡ 11 → fullKind (drop (p + 1) s) ≡ kindAt s at
+    module _ (not-run : ltb (byteClass here) 5 ≡ false) where
+      at-full : eqb (byteClass here) 11 ≡ true → fullKind (drop (p + 1) s) ≡ kindAt s at
       unfolding kindOf
-      at-full f = (let y : fullKind (drop (p + 1) s) ≡ kindOf (here ∷ drop (p + 1) s) = rw (not-run, eq-eqb (byteClass here) 11 f, kindOf) in y) ∙ kind-here
+      at-full f = (let y : fullKind (drop (p + 1) s) ≡ kindOf (here ∷ drop (p + 1) s) = rw (not-run, f, kindOf) in y) ∙ kind-here
 
-      to-full : byteClass here ≡ 11 → p + fullSize (drop (p + 1) s) ≡ endAt s at
+      to-full : eqb (byteClass here) 11 ≡ true → p + fullSize (drop (p + 1) s) ≡ endAt s at
       unfolding sizeOf
-      to-full f = ap (λ (k : ℕ). p + k) (let y : fullSize (drop (p + 1) s) ≡ sizeOf (here ∷ drop (p + 1) s) = rw (not-run, eq-eqb (byteClass here) 11 f, sizeOf) in y) ∙ end-here
+      to-full f = ap (λ (k : ℕ). p + k) (let y : fullSize (drop (p + 1) s) ≡ sizeOf (here ∷ drop (p + 1) s) = rw (not-run, f, sizeOf) in y) ∙ end-here
 
       -- the first `>` is at q
-      module _ (f : byteClass here ≡ 11) (q : ℕ) (g : q ≡ p + 1 + upToClose (drop (p + 1) s)) where
+      module _ (f : eqb (byteClass here) 11 ≡ true) (q : ℕ) (g : q ≡ p + 1 + upToClose (drop (p + 1) s)) where
         left : length (drop (p + 1) s) ≡ length s - (p + 1)
         left = length-drop (p + 1) s
 
@@ -180,13 +177,10 @@ module _ (s : List ℕ) (at p : ℕ) (e : p ≡ placeAt s at) where
             let b : length (drop (p + 1) s) ≤ upToClose (drop (p + 1) s) = omega arith in
             ap (λ (k : ℕ). p + k) (let y : 1 ≡ fullSize (drop (p + 1) s) = rw (le-ltb (upToClose (drop (p + 1) s)) (length (drop (p + 1) s)) b, fullSize) in y) ∙ to-full f
 
-      pub mark-kind : (c : ℕ) → c ≡ byteClass here → (c ≡ 11 → ⊥) → getD markKinds c 17 ≡ kindAt s at
+      pub mark-kind : eqb (byteClass here) 11 ≡ false → getD markKinds (byteClass here) 17 ≡ kindAt s at
       unfolding kindOf
-      mark-kind c g f =
-          ap (λ (k : ℕ). getD markKinds k 17) g
-          ∙ (let y : getD markKinds (byteClass here) 17 ≡ kindOf (here ∷ drop (p + 1) s) = rw (not-run, ne-eqb (byteClass here) 11 (λ z. f (g ∙ z)), kindOf) in y)
-          ∙ kind-here
+      mark-kind f = (let y : getD markKinds (byteClass here) 17 ≡ kindOf (here ∷ drop (p + 1) s) = rw (not-run, f, kindOf) in y) ∙ kind-here
 
-      pub mark-size : (c : ℕ) → c ≡ byteClass here → (c ≡ 11 → ⊥) → p + 1 ≡ endAt s at
+      pub mark-size : eqb (byteClass here) 11 ≡ false → p + 1 ≡ endAt s at
       unfolding sizeOf
-      mark-size c g f = ap (λ (k : ℕ). p + k) (let y : 1 ≡ sizeOf (here ∷ drop (p + 1) s) = rw (not-run, ne-eqb (byteClass here) 11 (λ z. f (g ∙ z)), sizeOf) in y) ∙ end-here
+      mark-size f = ap (λ (k : ℕ). p + k) (let y : 1 ≡ sizeOf (here ∷ drop (p + 1) s) = rw (not-run, f, sizeOf) in y) ∙ end-here

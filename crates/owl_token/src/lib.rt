@@ -1,10 +1,12 @@
 // The tokens of a text. There is no token list: a token is found from a position, by its bytes alone.
 ghost use mathlib.Core.Path.{_≡_};
 ghost use Prim.Native.Nat.{_+_, _-_, _*_, _≤_, _<_};
+ghost use mathlib.Core.Bool.{true, false};
+ghost use lib.Dec.{ltb};
 ghost use lib.ListN.{length, getD, drop, take};
 ghost use Rattle.owl.specs.Naming.{sameBytes};
-ghost use Rattle.owl.specs.Token.{byteClass, between, runLength, shapes, shape, upToClose, opensAfter, wordKind, runKind, markKinds, placeAt, kindAt, endAt};
-ghost use Rattle.owl_token.specs.Keyword.{keywordKind, isSmall, endsLine};
+ghost use Rattle.owl.specs.Token.{isPlain, byteClass, between, runLength, shapes, shape, upToClose, opensAfter, wordKind, runKind, markKinds, placeAt, kindAt, endAt};
+ghost use Rattle.owl_token.specs.Keyword.{keywordKind, endsLine, AllPlain};
 
 // A token: its kind, where it begins and where the text goes on.
 pub struct Token {
@@ -24,57 +26,39 @@ fn wide(x: u8) -> usize
     x as usize
 }
 
-// The common bytes are asked for first.
-fn byte_class(b: u8) -> u8
-    ensures { λ r. ⌜ (r ≡ byteClass b) × (r < 14) ⌝ }
+// Letters, digits and bytes from 128, of which texts mostly consist. A bit of the numbers stands for each byte.
+fn is_plain(b: u8) -> bool
+    ensures { λ r. ⌜ r ≡ isPlain b ⌝ }
 {
-    if 96 < b {
-        if b < 123 {
-            return 0;
+    if 63 < b {
+        if 127 < b {
+            return true;
         }
-        if b < 128 {
-            return 4;
-        }
-        return 0;
+        let letters: u64 = 0x07FFFFFE07FFFFFE;
+        return (letters >> (b - 64)) % 2 == 1;
     }
-    if 64 < b {
-        if b < 91 {
-            return 0;
-        }
-        if b == 95 {
-            return 1;
-        }
-        return 4;
+    let digits: u64 = 0x03FF000000000000;
+    (digits >> b) % 2 == 1
+}
+
+// Whether a byte is one of a run. A bit of the number stands for each byte that is not.
+fn in_run(b: u8) -> bool
+    ensures { λ r. ⌜ r ≡ ltb (byteClass b) 5 ⌝ }
+{
+    if 63 < b {
+        return true;
     }
-    if 47 < b {
-        if b < 58 {
-            return 0;
-        }
-        if b == 58 {
-            return 3;
-        }
-        if b == 60 {
-            return 11;
-        }
-        if b == 61 {
-            return 10;
-        }
-        if b == 62 {
-            return 12;
-        }
-        return 4;
-    }
-    if b == 32 {
-        return 5;
-    }
-    if b == 40 {
-        return 8;
-    }
-    if b == 41 {
-        return 9;
-    }
-    if b == 10 {
-        return 6;
+    let others: u64 = 0x7000030D00002600;
+    (others >> b) % 2 == 0
+}
+
+// The class of a byte of a run that is not plain.
+fn odd_class(b: u8) -> u8
+    requires { ⌜ (isPlain b ≡ false) × (ltb (byteClass b) 5 ≡ true) ⌝ }
+    ensures { λ r. ⌜ (r ≡ byteClass b) × (r < 5) ⌝ }
+{
+    if b == 58 {
+        return 3;
     }
     if b == 45 {
         return 2;
@@ -82,17 +66,8 @@ fn byte_class(b: u8) -> u8
     if b == 46 {
         return 2;
     }
-    if b == 35 {
-        return 7;
-    }
-    if b == 13 {
-        return 6;
-    }
-    if b == 9 {
-        return 5;
-    }
-    if b == 34 {
-        return 13;
+    if b == 95 {
+        return 1;
     }
     4
 }
@@ -145,58 +120,32 @@ fn skip(s: &[u8], at: usize) -> usize
     i
 }
 
-// The shape of a run after one more byte.
+// The shape of a run after one more byte. A class has a number, and a shape a digit of it, the last for shape 0.
 fn shaped(m: u8, c: u8) -> u8
     requires { ⌜ (m < 6) × (c < 5) ⌝ }
     ensures { λ r. ⌜ (r ≡ getD shapes (m * 5 + c) 5) × (r < 6) ⌝ }
 {
-    if c == 4 {
-        return 5;
-    }
-    if m == 4 {
-        return 4;
-    }
-    if m == 2 {
-        if c == 3 {
-            return 3;
-        }
-        return 2;
-    }
-    if m == 5 {
-        return 5;
-    }
-    if m == 3 {
-        if c == 2 {
-            return 5;
-        }
-        return 4;
-    }
-    if c == 3 {
-        if m == 1 {
-            return 5;
-        }
-        return 3;
-    }
-    if m == 1 {
-        return 2;
-    }
-    if c == 1 {
-        return 1;
-    }
-    2
+    let after: [u32; 5] = [0x544222, 0x544221, 0x545222, 0x544353, 0x555555];
+    ((after[wide(c)] >> (4 * m)) % 16) as u8
 }
 
-// Small letters, of which texts mostly consist.
-fn is_small(b: u8) -> bool
-    ensures { λ r. ⌜ r ≡ isSmall b ⌝ }
+// Where the plain bytes from a position on end.
+fn plain_end(s: &[u8], at: usize) -> usize
+    requires { ⌜ at ≤ length (now s) ⌝ }
+    ensures { λ r. ⌜ AllPlain (now (s .entry)) at r ⌝ }
 {
-    if b < 97 {
-        return false;
+    let mut i = at;
+    while i < s.len() {
+        if is_plain(s[i]) {
+            i += 1;
+        } else {
+            return i;
+        }
     }
-    b < 123
+    i
 }
 
-// The run at a position: where it ends, and what it is.
+// The run at a position: where it ends, and what it is. Its shape does not change from one plain byte to the next.
 fn run_at(s: &[u8], at: usize) -> Run
     requires { ⌜ at ≤ length (now s) ⌝ }
     ensures { λ r. ⌜ (r .end ≡ at + runLength (drop at (now (s .entry)))) × (r .end ≤ length (now (s .entry))) × (r .shape ≡ shape 0 (take (runLength (drop at (now (s .entry)))) (drop at (now (s .entry))))) × (r .shape < 6) ⌝ }
@@ -205,16 +154,14 @@ fn run_at(s: &[u8], at: usize) -> Run
     let mut m = 0;
     while i < s.len() {
         let b = s[i];
-        if is_small(b) {
+        if is_plain(b) {
             m = shaped(m, 0);
+            i = plain_end(s, i + 1);
+        } else if in_run(b) {
+            m = shaped(m, odd_class(b));
             i += 1;
         } else {
-            let c = byte_class(b);
-            if 4 < c {
-                return Run { end: i, shape: m };
-            }
-            m = shaped(m, c);
-            i += 1;
+            return Run { end: i, shape: m };
         }
     }
     Run { end: i, shape: m }
@@ -285,12 +232,19 @@ fn close_at(s: &[u8], at: usize) -> usize
     i
 }
 
-fn mark_kind(c: u8) -> u8
-    requires { ⌜ c < 14 ⌝ }
-    ensures { λ r. ⌜ (r ≡ getD markKinds c 17) × (r < 18) ⌝ }
+fn mark_kind(b: u8) -> u8
+    ensures { λ r. ⌜ (r ≡ getD markKinds (byteClass b) 17) × (r < 18) ⌝ }
 {
-    let kinds = [17, 17, 17, 17, 17, 17, 17, 17, 1, 2, 3, 17, 17, 17];
-    kinds[wide(c)]
+    if b == 40 {
+        return 1;
+    }
+    if b == 41 {
+        return 2;
+    }
+    if b == 61 {
+        return 3;
+    }
+    17
 }
 
 // Whether the next token is `(`.
@@ -347,14 +301,14 @@ pub fn token_at(s: &[u8], at: usize) -> Token
             end: place,
         };
     }
-    let c = byte_class(s[place]);
-    if c < 5 {
+    let b = s[place];
+    if in_run(b) {
         let run = run_at(s, place);
         let end = run.end;
         let kind = run_kind(s, place, run);
         return Token { kind, place, end };
     }
-    if c == 11 {
+    if b == 60 {
         let close = close_at(s, place + 1);
         if close < s.len() {
             return Token {
@@ -370,7 +324,7 @@ pub fn token_at(s: &[u8], at: usize) -> Token
         };
     }
     Token {
-        kind: mark_kind(c),
+        kind: mark_kind(b),
         place,
         end: place + 1,
     }

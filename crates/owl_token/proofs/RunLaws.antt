@@ -15,9 +15,9 @@ use mathlib.Core.List.{[], List, _∷_}
 use Prim.Native.Nat.{ℕ, zero, suc, _+_, _-_, _*_, _/_, _%_, _^_, _≤_, _<_}
 use native.Mathlib.Omega.{arith}
 use native.Mathlib.Decide.{decLt}
-use lib.Dec.{T, eqb, eqb→eq, leb, le→leb, leb→le, ltb, lt→ltb, ltb→lt, not-T}
+use lib.Dec.{T, eqb, eqb→eq, leb, le→leb, ltb, ltb→lt, not-T}
 use lib.ListN.{length, getD, take, drop, drop-of-length-le}
-use borrow.Author.Tests.{eq-eqb, ne-eqb, lt-ltb, le-ltb, le-leb, lt-leb}
+use borrow.Author.Tests.{eq-eqb, ne-eqb, lt-ltb}
 use Rattle.el.specs.Test.{allBelow}
 use Rattle.el.specs.TestLaws.{is-true, true-is, and-make, and-left, and-right, allBelow-at}
 use Rattle.owl.specs.Naming.{sameBytes}
@@ -122,14 +122,9 @@ pub line-other : (b : ℕ) → (b ≡ 10 → ⊥) → eqb b 13 ≡ endsLine b
 unfolding endsLine
 line-other b h = sym (ap (λ (t : Bool). t || eqb b 13) (ne-eqb b 10 h))
 
--- one computed test gives what every byte that passes p does
+-- the same of what a byte does between tokens and in a comment
 by-between : (p : ℕ → ℕ → Bool) (v : ℕ) → T (allBelow 2 (λ c. allBelow 256 (λ b. not (p c b) || eqb (between c b) v))) → (c b : ℕ) → c < 2 → b < 256 → T (p c b) → v ≡ between c b
-by-between p v t c b h k u =
-    go (p c b) u (allBelow-at 256 b (λ b. not (p c b) || eqb (between c b) v) (allBelow-at 2 c (λ c. allBelow 256 (λ b. not (p c b) || eqb (between c b) v)) t h) k)
-  where
-    go : (q : Bool) → T q → T (not q || eqb (between c b) v) → v ≡ between c b
-    go true u w = sym (eqb→eq (between c b) v w)
-    go false u w = absurd u
+by-between p v t c b h k u = value-by (between c) (p c) v (allBelow-at 2 c (λ c. allBelow 256 (λ b. not (p c b) || eqb (between c b) v)) t h) b k u
 
 pub between-line : (c b : ℕ) → c < 2 → b < 256 → endsLine b ≡ true → 0 ≡ between c b
 unfolding between betweens byteClass isPlain allBelow endsLine

@@ -38,18 +38,6 @@ refusal-requires c κs = c .if3 .taken
 returns-3 : tie.Need-returns-3 Inv-loop μ-loop
 returns-3 c = steps.says-bad (c .before .before .before .before .before .before .before .before .args .s .now) (c .before .before .before .before .before .before .loop .at) (c .before .before .before .before .before .before .loop .q) (c .before .before .before .before .before .before .loop .depth) (c .before .before .before .before .before .token-at .result .kind) ((c .before .before .before .before .before .before .loop .inv) .0) (c .before .before .before .before .before .token-at .ensures .0) (c .before .before .before .before .if1 .left) (c .before .before .next .result) (c .before .before .next .ensures .0) (c .refusal .result) (c .before .before .before .before .before .token-at .result .place) (c .refusal .ensures) (c .before .before .before .before .before .token-at .ensures .1) (c .before .if3 .taken)
 
-opener-requires : tie.Need-opener-requires Inv-loop μ-loop
-opener-requires c κs = tt
-
-inner-requires : tie.Need-inner-requires Inv-loop μ-loop
-inner-requires c κs = tt
-
-array-write-kept : tie.Need-array-write-kept Inv-loop μ-loop
-array-write-kept c = omega arith
-
-raised-requires : tie.Need-raised-requires Inv-loop μ-loop
-raised-requires c κs = tt
-
 add-depth : tie.Need-add-depth Inv-loop μ-loop
 add-depth c = let x = c .before .before .before .before .before .before .before .before .before .loop .inv .0 .4 in let y = c .before .before .before .before .before .before .before .before .before .loop .inv .0 .2 in omega arith
 
@@ -62,27 +50,15 @@ loop-again c = window.turn-open (c .before .before .before .before .before .befo
 returns-4 : tie.Need-returns-4 Inv-loop μ-loop
 returns-4 c = steps.says-over (c .before .before .before .before .before .before .before .before .before .before .before .args .s .now) (c .before .before .before .before .before .before .before .before .before .loop .at) (c .before .before .before .before .before .before .before .before .before .loop .q) (c .before .before .before .before .before .before .before .before .before .loop .depth) (c .before .before .before .before .before .before .before .before .token-at .result .kind) ((c .before .before .before .before .before .before .before .before .before .loop .inv) .0) (c .before .before .before .before .before .before .before .before .token-at .ensures .0) (c .before .before .before .before .before .before .before .if1 .left) (c .before .before .before .before .before .next .result) (c .before .before .before .before .before .next .ensures .0) (c .before .before .before .before .if3 .left) (c .before .before .before .before .before .before .before .before .token-at .result .place) (c .before .before .before .before .before .before .before .before .token-at .ensures .1) (sym (c .before .before .before .opener .ensures) ∙ c .before .before .if4 .left) (c .before .if5 .taken) (c .if6 .taken)
 
-sub-depth : tie.Need-sub-depth Inv-loop μ-loop
-sub-depth c = omega arith
-
-low-requires : tie.Need-low-requires Inv-loop μ-loop
-low-requires c κs = tt
-
 refill-requires : tie.Need-refill-requires Inv-loop μ-loop
 unfolding moves
 refill-requires c κs = (c .before .before .before .before .before .before .before .before .before .before .before .before .loop .inv .0 .2, c .before .low .ensures .1, refl)
-
-array-read-q : tie.Need-array-read-q Inv-loop μ-loop
-array-read-q c = omega arith
 
 loop-less-2 : tie.Need-loop-less-2 Inv-loop μ-loop
 loop-less-2 c = let z = steps.goes (c .before .before .before .before .before .before .before .before .before .before .before .before .before .before .before .before .args .s .now) (c .before .before .before .before .before .before .before .before .before .before .before .before .before .before .loop .at) (c .before .before .before .before .before .before .before .before .before .before .before .before .before .before .loop .q) (c .before .before .before .before .before .before .before .before .before .before .before .before .before .before .loop .depth) (c .before .before .before .before .before .before .before .before .before .before .before .before .before .token-at .result .kind) ((c .before .before .before .before .before .before .before .before .before .before .before .before .before .before .loop .inv) .0) (c .before .before .before .before .before .before .before .before .before .before .before .before .before .token-at .ensures .0) (c .before .before .before .before .before .before .before .before .before .before .before .before .if1 .left) (c .before .before .before .before .before .before .before .before .before .before .next .result) (c .before .before .before .before .before .before .before .before .before .before .next .ensures .0) (c .before .before .before .before .before .before .before .before .before .before .before .before .before .token-at .result .end) (c .before .before .before .before .before .before .before .before .before .before .before .before .before .token-at .ensures .2) in let y = (c .before .before .before .before .before .before .before .before .before .before .before .before .before .token-at .ensures .3) in omega arith
 
 loop-again-2 : tie.Need-loop-again-2 Inv-loop μ-loop
 loop-again-2 c = window.turn-refill (c .before .before .before .before .before .before .before .before .before .before .before .before .before .before .before .before .args .s .now) (c .before .before .before .before .before .before .before .before .before .before .before .before .before .before .loop .at) (c .before .before .before .before .before .before .before .before .before .before .before .before .before .before .loop .q) (c .before .before .before .before .before .before .before .before .before .before .before .before .before .before .loop .depth) (c .before .before .before .before .before .before .before .before .before .before .before .before .before .before .loop .lo) (c .before .before .before .before .before .before .before .before .before .before .before .before .before .token-at .result .kind) (c .before .before .before .before .before .before .before .before .before .before .before .before .before .before .loop .kept) (c .before .before .before .before .before .before .before .before .before .before .before .before .before .before .loop .inv) (c .before .before .before .before .before .before .before .before .before .before .before .before .before .token-at .ensures .0) (c .before .before .before .before .before .before .before .before .before .before .before .before .if1 .left) (c .before .before .before .before .before .before .before .before .before .before .next .result) (c .before .before .before .before .before .before .before .before .before .before .next .ensures .0) (c .before .before .before .before .before .before .before .before .before .if3 .left) (c .before .before .before .before .before .before .before .before .before .before .before .before .before .token-at .result .end) (c .before .before .before .before .before .before .before .before .before .before .before .before .before .token-at .ensures .2) (c .before .before .before .before .before .before .before .before .before .before .before .before .before .token-at .ensures .3) (c .before .before .before .low .result) (c .before .refill .result .kept) (let h : length (c .before .refill .result .kept) ≡ 4096 = search needs in h) (sym (c .before .before .before .before .before .before .before .before .opener .ensures) ∙ c .before .before .before .before .before .before .before .if4 .left) (c .before .before .before .before .before .before .if5 .taken) (c .before .before .before .before .before .if6 .left) (c .before .before .before .low .ensures .0) (c .before .before .before .low .ensures .1) (c .before .refill .ensures)
-
-array-read-q-2 : tie.Need-array-read-q-2 Inv-loop μ-loop
-array-read-q-2 c = omega arith
 
 loop-less-3 : tie.Need-loop-less-3 Inv-loop μ-loop
 loop-less-3 c = let z = steps.goes (c .before .before .before .before .before .before .before .before .before .before .before .before .args .s .now) (c .before .before .before .before .before .before .before .before .before .before .loop .at) (c .before .before .before .before .before .before .before .before .before .before .loop .q) (c .before .before .before .before .before .before .before .before .before .before .loop .depth) (c .before .before .before .before .before .before .before .before .before .token-at .result .kind) ((c .before .before .before .before .before .before .before .before .before .before .loop .inv) .0) (c .before .before .before .before .before .before .before .before .before .token-at .ensures .0) (c .before .before .before .before .before .before .before .before .if1 .left) (c .before .before .before .before .before .before .next .result) (c .before .before .before .before .before .before .next .ensures .0) (c .before .before .before .before .before .before .before .before .before .token-at .result .end) (c .before .before .before .before .before .before .before .before .before .token-at .ensures .2) in let y = (c .before .before .before .before .before .before .before .before .before .token-at .ensures .3) in omega arith
@@ -109,21 +85,21 @@ check-spec =
     next-requires
     refusal-requires
     returns-3
-    opener-requires
-    inner-requires
-    array-write-kept
-    raised-requires
+    (λ c κs. tt)
+    (λ c κs. tt)
+    (λ c. omega arith)
+    (λ c κs. tt)
     add-depth
     loop-less
     loop-again
     returns-4
-    sub-depth
-    low-requires
+    (λ c. omega arith)
+    (λ c κs. tt)
     refill-requires
-    array-read-q
+    (λ c. omega arith)
     loop-less-2
     loop-again-2
-    array-read-q-2
+    (λ c. omega arith)
     loop-less-3
     loop-again-3
     loop-less-4

@@ -7,12 +7,6 @@ use borrow.Author.Needs.{needs}
 use Rattle.owl_text.proofs.deeper.Statement.{statement}
 use Rattle.owl_text.proofs.deeper.Tie as tie
 
-opener-requires : tie.Need-opener-requires
-opener-requires c κs = search needs
-
-add-result : tie.Need-add-result
-add-result c = search needs
-
 returns : tie.Need-returns
 returns c = sym (steps.deeper-open _ _ (sym (c .before .opener .ensures) ∙ c .if1 .taken))
 
@@ -22,13 +16,10 @@ returns-2 c = sym (steps.deeper-plain _ _ (sym (c .before .before .opener .ensur
 returns-3 : tie.Need-returns-3
 returns-3 c = (let z : 0 ≡ c .before .before .before .before .args .depth - 1 = omega arith in z) ∙ sym (steps.deeper-close _ _ (sym (c .before .before .before .opener .ensures) ∙ c .before .before .if1 .left) (c .before .if2 .left))
 
-sub-result : tie.Need-sub-result
-sub-result c = search needs
-
 returns-4 : tie.Need-returns-4
 returns-4 c = sym (steps.deeper-close _ _ (sym (c .before .before .before .opener .ensures) ∙ c .before .before .if1 .left) (c .before .if2 .left))
 
 pub deeper-spec : {M : Type 1} → statement M
 deeper-spec =
     tie.close
-    (tie.spec opener-requires add-result returns returns-2 returns-3 sub-result returns-4)
+    (tie.spec (λ c κs. search needs) (λ c. search needs) returns returns-2 returns-3 (λ c. search needs) returns-4)

@@ -9,24 +9,6 @@ use Rattle.owl_text.proofs.next.Tie as tie
 returns : tie.Need-returns
 returns c = (tables.next-over _ _ (c .if1 .taken), omega arith)
 
-wide-requires : tie.Need-wide-requires
-wide-requires c κs = search needs
-
-column-requires : tie.Need-column-requires
-column-requires c κs = search needs
-
-wide-requires-2 : tie.Need-wide-requires-2
-wide-requires-2 c κs = search needs
-
-mul-result : tie.Need-mul-result
-mul-result c = search needs
-
-index-1-result : tie.Need-index-1-result
-index-1-result c = search needs
-
-index-2-result : tie.Need-index-2-result
-index-2-result c = search needs
-
 returns-2 : tie.Need-returns-2
 returns-2 c = tables.next-lent _ (c .before .before .before .before .before .pre .1) (c .before .before .before .wide .result) (c .before .wide2 .result) _ _ (c .before .before .before .wide .ensures) (c .before .wide2 .ensures ∙ c .before .before .column .ensures .0) (omega arith) (omega arith)
 
@@ -35,10 +17,10 @@ next-spec =
     tie.close
     (tie.spec
     returns
-    wide-requires
-    column-requires
-    wide-requires-2
-    mul-result
-    index-1-result
-    index-2-result
+    (λ c κs. search needs)
+    (λ c κs. search needs)
+    (λ c κs. search needs)
+    (λ c. search needs)
+    (λ c. search needs)
+    (λ c. search needs)
     returns-2)

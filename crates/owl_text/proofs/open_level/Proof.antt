@@ -6,9 +6,6 @@ use borrow.Author.Needs.{needs}
 use Rattle.owl_text.proofs.open_level.Statement.{statement}
 use Rattle.owl_text.proofs.open_level.Tie as tie
 
-opener-requires : tie.Need-opener-requires
-opener-requires c κs = search needs
-
 returns : tie.Need-returns
 returns c = tables.opening-none _ _ _ _ _ (sym (c .before .opener .ensures) ∙ not-true _ (c .if1 .taken))
 
@@ -18,12 +15,9 @@ returns-2 c = tables.window-below _ _ _ _ _ (c .if2 .taken) ∙ tables.opening-a
 returns-3 : tie.Need-returns-3
 returns-3 c = tables.window-above _ _ _ _ _ (c .before .if2 .left) (c .if3 .taken) ∙ tables.opening-at _ _ _ _ _ (sym (c .before .before .before .opener .ensures) ∙ not-false _ (c .before .before .if1 .left))
 
-inner-requires : tie.Need-inner-requires
-inner-requires c κs = search needs
-
 returns-4 : tie.Need-returns-4
 returns-4 c = c .inner .ensures ∙ tables.window-in _ _ _ _ _ (c .before .before .if2 .left) (c .before .if3 .left) ∙ tables.opening-at _ _ _ _ _ (sym (c .before .before .before .before .opener .ensures) ∙ not-false _ (c .before .before .before .if1 .left))
 
 pub open-level-spec : {M : Type 1} → statement M
 open-level-spec =
-    tie.close (tie.spec opener-requires returns returns-2 returns-3 inner-requires returns-4)
+    tie.close (tie.spec (λ c κs. search needs) returns returns-2 returns-3 (λ c κs. search needs) returns-4)

@@ -19,29 +19,14 @@ loop-holds c = window.filling-start (c .before .args .s .now) (c .before .args .
 token-at-requires : tie.Need-token-at-requires Inv-loop μ-loop
 token-at-requires c κs = c .before .loop .inv .0
 
-array-read-step-level : tie.Need-array-read-step-level Inv-loop μ-loop
-array-read-step-level c = omega arith
-
 step-level-requires : tie.Need-step-level-requires Inv-loop μ-loop
 step-level-requires c κs = (c .token-at .ensures .4, c .before .before .before .before .pre .2)
-
-array-write-kept : tie.Need-array-write-kept Inv-loop μ-loop
-array-write-kept c = omega arith
 
 add-behind : tie.Need-add-behind Inv-loop μ-loop
 add-behind c = let x = c .before .before .before .loop .inv .0 in let y = c .before .before .before .loop .inv .1 in omega arith
 
-array-read-open-level : tie.Need-array-read-open-level Inv-loop μ-loop
-array-read-open-level c = omega arith
-
 add-open-level : tie.Need-add-open-level Inv-loop μ-loop
 add-open-level c = let x = c .before .before .before .loop .inv .0 in let y = c .before .before .before .loop .inv .1 in omega arith
-
-open-level-requires : tie.Need-open-level-requires Inv-loop μ-loop
-open-level-requires c κs = tt
-
-array-write-kept-2 : tie.Need-array-write-kept-2 Inv-loop μ-loop
-array-write-kept-2 c = omega arith
 
 deeper-requires : tie.Need-deeper-requires Inv-loop μ-loop
 deeper-requires c κs = let x = c .before .before .before .before .loop .inv .0 in let y = c .before .before .before .before .loop .inv .1 in omega arith
@@ -63,14 +48,14 @@ refill-spec =
     μ-loop
     loop-holds
     token-at-requires
-    array-read-step-level
+    (λ c. omega arith)
     step-level-requires
-    array-write-kept
+    (λ c. omega arith)
     add-behind
-    array-read-open-level
+    (λ c. omega arith)
     add-open-level
-    open-level-requires
-    array-write-kept-2
+    (λ c κs. tt)
+    (λ c. omega arith)
     deeper-requires
     loop-less
     loop-again

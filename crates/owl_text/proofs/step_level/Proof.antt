@@ -11,11 +11,8 @@ returns c = tables.window-below _ _ _ _ _ (c .if1 .taken)
 returns-2 : tie.Need-returns-2
 returns-2 c = tables.window-above _ _ _ _ _ (c .before .if1 .left) (c .if2 .taken)
 
-next-requires : tie.Need-next-requires
-next-requires c κs = search needs
-
 returns-3 : tie.Need-returns-3
 returns-3 c = c .next .ensures .0 ∙ tables.window-in _ _ _ _ _ (c .before .before .if1 .left) (c .before .if2 .left)
 
 pub step-level-spec : {M : Type 1} → statement M
-step-level-spec = tie.close (tie.spec returns returns-2 next-requires returns-3)
+step-level-spec = tie.close (tie.spec returns returns-2 (λ c κs. search needs) returns-3)

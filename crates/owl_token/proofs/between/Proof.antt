@@ -7,9 +7,6 @@ use borrow.Author.Needs.{needs}
 use Rattle.owl_token.proofs.between.Statement.{statement}
 use Rattle.owl_token.proofs.between.Tie as tie
 
-ends-line-requires : tie.Need-ends-line-requires
-ends-line-requires c κs = search needs
-
 returns : tie.Need-returns
 returns c = (laws.between-line (c .before .before .args .c) (c .before .before .args .b) (c .before .before .pre) (omega arith) (sym (c .before .ends-line .ensures) ∙ c .if1 .taken), omega arith)
 
@@ -34,4 +31,4 @@ returns-6 c = (laws.between-token (c .before .before .before .before .before .be
 pub between-spec : {M : Type 1} → statement M
 between-spec =
     tie.close
-    (tie.spec ends-line-requires returns returns-2 returns-3 returns-4 returns-5 returns-6)
+    (tie.spec (λ c κs. search needs) returns returns-2 returns-3 returns-4 returns-5 returns-6)

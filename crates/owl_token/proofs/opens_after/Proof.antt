@@ -7,17 +7,11 @@ use borrow.Author.Needs.{needs}
 use Rattle.owl_token.proofs.opens_after.Statement.{statement}
 use Rattle.owl_token.proofs.opens_after.Tie as tie
 
-skip-requires : tie.Need-skip-requires
-skip-requires c κs = search needs
-
 returns : tie.Need-returns
 returns c = let s = c .before .before .before .args .s .now in let p = c .before .skip .result in let h : length s ≤ p = omega arith in laws.opens-none s (c .before .before .before .args .at) p (c .before .skip .ensures .0) h
-
-shared-slice-read-result : tie.Need-shared-slice-read-result
-shared-slice-read-result c = search needs
 
 returns-2 : tie.Need-returns-2
 returns-2 c = laws.opens-here (c .before .before .before .before .args .s .now) (c .before .before .before .before .args .at) (c .before .before .skip .result) (c .before .before .skip .ensures .0)
 
 pub opens-after-spec : {M : Type 1} → statement M
-opens-after-spec = tie.close (tie.spec skip-requires returns shared-slice-read-result returns-2)
+opens-after-spec = tie.close (tie.spec (λ c κs. search needs) returns (λ c. search needs) returns-2)

@@ -20,9 +20,6 @@ loop-holds c = laws.running-start (c .before .args .s .now) (c .before .args .at
 shaped-requires : tie.Need-shaped-requires Inv-loop μ-loop
 shaped-requires c κs = (c .before .before .before .before .loop .inv .2, omega arith)
 
-loop-less : tie.Need-loop-less Inv-loop μ-loop
-loop-less c = omega arith
-
 loop-again : tie.Need-loop-again Inv-loop μ-loop
 loop-again c = let s = c .before .before .before .before .before .before .before .before .args .s .now in let at = c .before .before .before .before .before .before .before .before .args .at in let i = c .before .before .before .before .before .before .loop .i in let h : i < length s = omega arith in let m = c .before .before .before .before .before .before .loop .m in let n = c .before .shaped .result in laws.running-plain s at (i + 1) (c .plain-end .result) n (c .plain-end .ensures) (laws.shape-keeps m n (c .before .before .before .before .before .before .loop .inv .2) (c .before .shaped .ensures .0)) (laws.running-on s at i m 0 n h (laws.plain-class _ (sym (c .before .before .before .is-plain .ensures) ∙ c .before .before .if1 .taken)) (omega arith) (c .before .shaped .ensures .0) (c .before .shaped .ensures .1) (c .before .before .before .before .before .before .loop .inv))
 
@@ -53,7 +50,7 @@ run-at-spec =
     shaped-requires
     (λ c. omega arith)
     (λ c κs. omega arith)
-    loop-less
+    (λ c. omega arith)
     loop-again
     (λ c κs. search needs)
     odd-class-requires

@@ -20,20 +20,8 @@ returns c = laws.bytes-lengths _ _ (c .if1 .taken)
 loop-holds : tie.Need-loop-holds Inv-loop μ-loop
 loop-holds c = (c .if1 .left, omega arith, refl)
 
-shared-slice-read-if2 : tie.Need-shared-slice-read-if2 Inv-loop μ-loop
-shared-slice-read-if2 c = omega arith
-
-shared-slice-read-if2-2 : tie.Need-shared-slice-read-if2-2 Inv-loop μ-loop
-shared-slice-read-if2-2 c = omega arith
-
 returns-2 : tie.Need-returns-2 Inv-loop μ-loop
 returns-2 c = let a = c .before .before .before .before .before .before .args .a .now in let b = c .before .before .before .before .before .before .args .b .now in let i = c .before .before .before .before .loop .i in let h : i < length a = omega arith in let l : i < length b = omega arith in sym (c .before .before .before .before .loop .inv .2 ∙ laws.bytes-off a b i h l (c .if2 .taken))
-
-add-i : tie.Need-add-i Inv-loop μ-loop
-add-i c = omega arith
-
-loop-less : tie.Need-loop-less Inv-loop μ-loop
-loop-less c = omega arith
 
 loop-again : tie.Need-loop-again Inv-loop μ-loop
 loop-again c = let a = c .before .before .before .before .before .before .args .a .now in let b = c .before .before .before .before .before .before .args .b .now in let i = c .before .before .before .before .loop .i in let h : i < length a = omega arith in let l : i < length b = omega arith in (c .before .before .before .before .loop .inv .0, omega arith, c .before .before .before .before .loop .inv .2 ∙ laws.bytes-on a b i h l (c .if2 .left))
@@ -49,10 +37,10 @@ same-bytes-spec =
     μ-loop
     returns
     loop-holds
-    shared-slice-read-if2
-    shared-slice-read-if2-2
+    (λ c. omega arith)
+    (λ c. omega arith)
     returns-2
-    add-i
-    loop-less
+    (λ c. omega arith)
+    (λ c. omega arith)
     loop-again
     returns-3)

@@ -17,20 +17,8 @@ abbrev μ-loop : tie.MeasureT-loop
 loop-holds : tie.Need-loop-holds Inv-loop μ-loop
 loop-holds c = (omega arith, omega arith, omega arith, laws.skip-start _ _)
 
-shared-slice-read-between : tie.Need-shared-slice-read-between Inv-loop μ-loop
-shared-slice-read-between c = omega arith
-
-between-requires : tie.Need-between-requires Inv-loop μ-loop
-between-requires c κs = omega arith
-
 returns : tie.Need-returns Inv-loop μ-loop
 returns c = let s = c .before .before .before .before .before .before .args .s .now in let i = c .before .before .before .before .loop .i in let m = c .before .before .before .before .loop .c in let h : i < length s = omega arith in (sym (c .before .before .before .before .loop .inv .3 ∙ laws.skip-stop s m i h (sym (c .before .between .ensures .0) ∙ c .if1 .taken)), omega arith)
-
-add-i : tie.Need-add-i Inv-loop μ-loop
-add-i c = omega arith
-
-loop-less : tie.Need-loop-less Inv-loop μ-loop
-loop-less c = omega arith
 
 loop-again : tie.Need-loop-again Inv-loop μ-loop
 loop-again c = let s = c .before .before .before .before .before .before .args .s .now in let i = c .before .before .before .before .loop .i in let m = c .before .before .before .before .loop .c in let h : i < length s = omega arith in let e = c .before .between .ensures .0 in (omega arith, omega arith, omega arith, c .before .before .before .before .loop .inv .3 ∙ laws.skip-on s m i h (λ z. c .if1 .left (e ∙ z)) ∙ ap (λ (k : ℕ). i + 1 + blank k (drop (i + 1) s)) (sym e))
@@ -45,10 +33,10 @@ skip-spec =
     Inv-loop
     μ-loop
     loop-holds
-    shared-slice-read-between
-    between-requires
+    (λ c. omega arith)
+    (λ c κs. omega arith)
     returns
-    add-i
-    loop-less
+    (λ c. omega arith)
+    (λ c. omega arith)
     loop-again
     returns-2)

@@ -8,7 +8,7 @@
 --   running-start, running-stop, running-on, running-plain, running-end == its turns
 --   plain-next                                   == the loop over plain bytes
 --   close-start, close-stop, close-on, close-end == the loop up to `>`
---   bytes-lengths, bytes-on, bytes-off, bytes-end == the loop over two lists of bytes
+--   word-on, word-off, word-short, word-end, word-stop == the loop over a run and a word
 use mathlib.Core.Path.{_≡_, refl, sym, ap, ap₂, subst, _∙_}
 use mathlib.Core.Bool.{Bool, true, false, _&&_, _||_, not}
 use mathlib.Core.List.{[], List, _∷_}
@@ -22,7 +22,7 @@ use Rattle.el.specs.Test.{allBelow}
 use Rattle.el.specs.TestLaws.{is-true, true-is, and-make, and-left, and-right, allBelow-at}
 use Rattle.owl.specs.Naming.{sameBytes}
 use Rattle.owl.specs.Token.{isPlain, byteClass, betweens, between, blank, runLength, shapes, shaped, shape, upToClose, markKinds, placeAt}
-use Rattle.owl_token.specs.Keyword.{endsLine, AllPlain}
+use Rattle.owl_token.specs.Keyword.{endsLine, AllPlain, runOf}
 use Rattle.owl.specs.TokenLaws.{drop-cons, run-more}
 
 ----------------------------------------------------------------------------------------------------
@@ -257,27 +257,40 @@ unfolding upToClose
 close-end s i h = ap (λ (l : List ℕ). i + upToClose l) (drop-of-length-le s {i = i} h) ∙ (let z : i + 0 ≡ i = omega arith in z)
 
 ----------------------------------------------------------------------------------------------------
--- Two lists of bytes
+-- Whether a run is a word
 
-pub bytes-lengths : (a b : List ℕ) → (length a ≡ length b → ⊥) → false ≡ sameBytes a b
+pub word-on : (s w : List ℕ) (i : ℕ) → i < length s → i < length w → getD s i 0 ≡ getD w i 0 → ltb (byteClass (getD w i 0)) 5 ≡ true →
+    sameBytes (runOf (drop i s)) (drop i w) ≡ sameBytes (runOf (drop (i + 1) s)) (drop (i + 1) w)
 unfolding sameBytes
-bytes-lengths [] [] h = absurd (h refl)
-bytes-lengths [] (y ∷ b) h = refl
-bytes-lengths (x ∷ a) [] h = refl
-bytes-lengths (x ∷ a) (y ∷ b) h = go (eqb x y) (bytes-lengths a b (λ e. h (ap suc e)))
+word-on s w i h l e c =
+    let b : ℕ = getD s i 0 in
+    let rest : List ℕ = drop (i + 1) s in
+    ap₂ (λ (a : List ℕ) (k : List ℕ). sameBytes (runOf a) k) (drop-cons s i h) (drop-cons w i l)
+    ∙ ap (λ (n : ℕ). sameBytes (take n (b ∷ rest)) (getD w i 0 ∷ drop (i + 1) w)) (run-more b rest (ap (λ (k : ℕ). ltb (byteClass k) 5) e ∙ c))
+    ∙ ap (λ (t : Bool). t && sameBytes (runOf rest) (drop (i + 1) w)) (eq-eqb b (getD w i 0) e)
+
+pub word-off : (s w : List ℕ) (i : ℕ) → i < length s → i < length w → (getD s i 0 ≡ getD w i 0 → ⊥) → sameBytes (runOf (drop i s)) (drop i w) ≡ false
+unfolding sameBytes runLength
+word-off s w i h l e =
+    ap₂ (λ (a : List ℕ) (k : List ℕ). sameBytes (runOf a) k) (drop-cons s i h) (drop-cons w i l) ∙ go (ltb (byteClass (getD s i 0)) 5)
   where
-    go : (t : Bool) → false ≡ sameBytes a b → false ≡ t && sameBytes a b
-    go true e = e
-    go false e = refl
+    go : (t : Bool) → sameBytes (take (elim t [ true ↦ suc (runLength (drop (i + 1) s)) | false ↦ 0 ]) (getD s i 0 ∷ drop (i + 1) s)) (getD w i 0 ∷ drop (i + 1) w) ≡ false
+    go true = ap (λ (t : Bool). t && sameBytes (runOf (drop (i + 1) s)) (drop (i + 1) w)) (ne-eqb (getD s i 0) (getD w i 0) e)
+    go false = refl
 
-pub bytes-on : (a b : List ℕ) (i : ℕ) → i < length a → i < length b → getD a i 0 ≡ getD b i 0 → sameBytes (drop i a) (drop i b) ≡ sameBytes (drop (i + 1) a) (drop (i + 1) b)
-unfolding sameBytes
-bytes-on a b i h l e = ap₂ sameBytes (drop-cons a i h) (drop-cons b i l) ∙ ap (λ (t : Bool). t && sameBytes (drop (i + 1) a) (drop (i + 1) b)) (eq-eqb (getD a i 0) (getD b i 0) e)
+pub word-short : (s w : List ℕ) (i : ℕ) → length s ≤ i → i < length w → sameBytes (runOf (drop i s)) (drop i w) ≡ false
+unfolding sameBytes runLength
+word-short s w i h l = ap₂ (λ (a : List ℕ) (k : List ℕ). sameBytes (runOf a) k) (drop-of-length-le s {i = i} h) (drop-cons w i l)
 
-pub bytes-off : (a b : List ℕ) (i : ℕ) → i < length a → i < length b → (getD a i 0 ≡ getD b i 0 → ⊥) → sameBytes (drop i a) (drop i b) ≡ false
-unfolding sameBytes
-bytes-off a b i h l e = ap₂ sameBytes (drop-cons a i h) (drop-cons b i l) ∙ ap (λ (t : Bool). t && sameBytes (drop (i + 1) a) (drop (i + 1) b)) (ne-eqb (getD a i 0) (getD b i 0) e)
+pub word-end : (s w : List ℕ) (i : ℕ) → length s ≤ i → length w ≤ i → sameBytes (runOf (drop i s)) (drop i w) ≡ true
+unfolding sameBytes runLength
+word-end s w i h l = ap₂ (λ (a : List ℕ) (k : List ℕ). sameBytes (runOf a) k) (drop-of-length-le s {i = i} h) (drop-of-length-le w {i = i} l)
 
-pub bytes-end : (a b : List ℕ) (i : ℕ) → length a ≤ i → length b ≤ i → sameBytes (drop i a) (drop i b) ≡ true
-unfolding sameBytes
-bytes-end a b i h l = ap₂ sameBytes (drop-of-length-le a {i = i} h) (drop-of-length-le b {i = i} l)
+pub word-stop : (s w : List ℕ) (i : ℕ) → i < length s → length w ≤ i → sameBytes (runOf (drop i s)) (drop i w) ≡ not (ltb (byteClass (getD s i 0)) 5)
+unfolding sameBytes runLength
+word-stop s w i h l =
+    ap₂ (λ (a : List ℕ) (k : List ℕ). sameBytes (runOf a) k) (drop-cons s i h) (drop-of-length-le w {i = i} l) ∙ go (ltb (byteClass (getD s i 0)) 5)
+  where
+    go : (t : Bool) → sameBytes (take (elim t [ true ↦ suc (runLength (drop (i + 1) s)) | false ↦ 0 ]) (getD s i 0 ∷ drop (i + 1) s)) [] ≡ not t
+    go true = refl
+    go false = refl

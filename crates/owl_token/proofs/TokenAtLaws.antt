@@ -1,26 +1,23 @@
 -- Laws of one token: what the code finds at a position is what the definitions say stands there.
 --
 --   opens-none, opens-here     == the look-ahead to `(`
---   word-listed, word-unlisted == the kind of a word
---   run-prefix, run-name, run-odd, run-word == the kind of a run, by its shape
 --   end-kind, end-end          == no token is left
---   run-kind, run-size         == the token is a run
+--   run-size, word-token, other-token == the token is a run: a listed word, or another
 --   full-kind, full-size, open-kind, open-size == it begins with `<`, closed or not
 --   mark-kind, mark-size       == it is one byte
-use mathlib.Core.Path.{_≡_, refl, sym, ap, ap₂, _∙_}
-use mathlib.Core.Bool.{Bool, true, false}
+use mathlib.Core.Path.{_≡_, refl, sym, ap, subst, _∙_}
+use mathlib.Core.Bool.{true, false}
 use mathlib.Core.List.{List, _∷_}
 use Prim.Native.Nat.{ℕ, _+_, _-_, _≤_, _<_}
 use native.Mathlib.Omega.{arith}
 use lib.Dec.{eqb, ltb}
-use lib.ListN.{length, getD, take, drop, drop-of-length-le, length-drop, List·getD-eq-default}
-use lib.Seq.{getD-drop, drop-drop}
-use borrow.Author.Tests.{eq-eqb, ne-eqb, lt-ltb, le-ltb}
-use Rattle.owl.specs.Once.{isAmong, place}
-use Rattle.owl.specs.Naming.{sameBytes}
-use Rattle.owl.specs.Token.{byteClass, blank, runLength, shape, keywords, wordKind, runKind, upToClose, opensAfter, fullKind, fullSize, markKinds, kindOf, sizeOf, placeAt, kindAt, endAt}
-use Rattle.owl.specs.TokenLaws.{drop-cons}
-use Rattle.owl_token.specs.Keyword.{keywordKind}
+use lib.ListN.{length, getD, take, drop, drop-of-length-le, length-take, length-drop, List·getD-eq-default}
+use lib.Seq.{getD-drop, drop-drop, take-all}
+use borrow.Author.Tests.{lt-ltb, le-ltb}
+use Rattle.owl.specs.Token.{byteClass, blank, runLength, shape, runKind, upToClose, opensAfter, fullKind, fullSize, markKinds, kindOf, sizeOf, placeAt, kindAt, endAt}
+use Rattle.owl.specs.TokenLaws.{drop-cons, runLength-le}
+use Rattle.owl_token.specs.Keyword.{runOf, Listed, otherKind}
+use Rattle.owl_token.proofs.KeywordLaws.{listed-kind, other-kind}
 
 ----------------------------------------------------------------------------------------------------
 -- The look-ahead
@@ -34,56 +31,6 @@ opens-none s at p e h = sym (opens-at s at p e ∙ ap (λ (b : ℕ). eqb b 40) (
 
 pub opens-here : (s : List ℕ) (at p : ℕ) → p ≡ placeAt s at → eqb (getD s p 0) 40 ≡ opensAfter (drop at s)
 opens-here s at p e = sym (opens-at s at p e)
-
-----------------------------------------------------------------------------------------------------
--- Words and runs
-
-pub word-listed : (w : List ℕ) (o : Bool) (k : ℕ) → k ≡ keywordKind w → (k ≡ 0 → ⊥) → k ≡ wordKind w o
-unfolding keywordKind wordKind
-word-listed w o k e h = go (isAmong sameBytes w keywords) e
-  where
-    go : (b : Bool) → _≡_ {A = ℕ} k (elim b [ true ↦ 4 + place sameBytes w keywords | false ↦ 0 ]) →
-        _≡_ {A = ℕ} k (elim b [ true ↦ 4 + place sameBytes w keywords | false ↦ elim o [ true ↦ 16 | false ↦ 17 ] ])
-    go true e = e
-    go false e = absurd (h e)
-
-pub word-unlisted : (w : List ℕ) (o : Bool) (k : ℕ) → k ≡ keywordKind w → k ≡ 0 → _≡_ {A = ℕ} (elim o [ true ↦ 16 | false ↦ 17 ]) (wordKind w o)
-unfolding keywordKind wordKind
-word-unlisted w o k e h = go (isAmong sameBytes w keywords) e
-  where
-    go : (b : Bool) → _≡_ {A = ℕ} k (elim b [ true ↦ 4 + place sameBytes w keywords | false ↦ 0 ]) →
-        _≡_ {A = ℕ} (elim o [ true ↦ 16 | false ↦ 17 ]) (elim b [ true ↦ 4 + place sameBytes w keywords | false ↦ elim o [ true ↦ 16 | false ↦ 17 ] ])
-    go true e = absurd (let z : k ≡ 4 + place sameBytes w keywords = e in let y : ⊥ = omega arith in y)
-    go false e = refl
-
-pub word-opened : (w : List ℕ) (o : Bool) (k : ℕ) → k ≡ keywordKind w → k ≡ 0 → o ≡ true → 16 ≡ wordKind w o
-word-opened w o k e h t = sym (ap (λ (b : Bool). elim b [ true ↦ 16 | false ↦ 17 ]) t) ∙ word-unlisted w o k e h
-
-pub word-bare : (w : List ℕ) (o : Bool) (k : ℕ) → k ≡ keywordKind w → k ≡ 0 → o ≡ false → 17 ≡ wordKind w o
-word-bare w o k e h t = sym (ap (λ (b : Bool). elim b [ true ↦ 16 | false ↦ 17 ]) t) ∙ word-unlisted w o k e h
-
-module _ (w : List ℕ) (o : Bool) (m : ℕ) (e : m ≡ shape 0 w) where
-  test : (n : ℕ) → m ≡ n → eqb (shape 0 w) n ≡ true
-  test n h = eq-eqb (shape 0 w) n (sym e ∙ h)
-
-  fails : (n : ℕ) → (m ≡ n → ⊥) → eqb (shape 0 w) n ≡ false
-  fails n h = ne-eqb (shape 0 w) n (λ z. h (e ∙ z))
-
-  pub run-prefix : m ≡ 3 → 15 ≡ runKind w o
-  unfolding runKind
-  run-prefix h = rw (test 3 h, runKind)
-
-  pub run-name : (m ≡ 3 → ⊥) → m ≡ 4 → 13 ≡ runKind w o
-  unfolding runKind
-  run-name a h = rw (fails 3 a, test 4 h, runKind)
-
-  pub run-odd : (m ≡ 3 → ⊥) → (m ≡ 4 → ⊥) → m ≡ 5 → 17 ≡ runKind w o
-  unfolding runKind
-  run-odd a b h = rw (fails 3 a, fails 4 b, test 5 h, runKind)
-
-  pub run-word : (m ≡ 3 → ⊥) → (m ≡ 4 → ⊥) → (m ≡ 5 → ⊥) → wordKind w o ≡ runKind w o
-  unfolding runKind
-  run-word a b h = rw (fails 3 a, fails 4 b, fails 5 h, runKind)
 
 ----------------------------------------------------------------------------------------------------
 -- The token after a byte
@@ -115,23 +62,43 @@ module _ (s : List ℕ) (at p : ℕ) (e : p ≡ placeAt s at) where
     end-here : p + sizeOf (here ∷ drop (p + 1) s) ≡ endAt s at
     end-here = ap (λ (l : List ℕ). p + sizeOf l) (sym (drop-cons s p h)) ∙ end-from
 
-    -- a run of n bytes, which ends at q
-    pub run-kind : (n q : ℕ) → ltb (byteClass here) 5 ≡ true → n ≡ runLength (drop p s) → q ≡ p + n → runKind (take (q - p) (drop p s)) (opensAfter (drop q s)) ≡ kindAt s at
-    unfolding kindOf
-    run-kind n q f g d =
-        let z : q - p ≡ n = omega arith in
-        ap₂ (λ (a : List ℕ) (b : List ℕ). runKind a (opensAfter b)) (ap (λ (k : ℕ). take k (drop p s)) (z ∙ g))
-        (ap (λ (k : ℕ). drop k s) (d ∙ ap (λ (k : ℕ). p + k) g) ∙ sym (drop-drop (runLength (drop p s)) p s))
-        ∙ ap (λ (l : List ℕ). runKind (take (runLength l) l) (opensAfter (drop (runLength l) l))) (drop-cons s p h)
-        ∙ (let y : runKind (take (runLength (here ∷ drop (p + 1) s)) (here ∷ drop (p + 1) s)) (opensAfter (drop (runLength (here ∷ drop (p + 1) s)) (here ∷ drop (p + 1) s))) ≡ kindOf (here ∷ drop (p + 1) s) = rw (f, kindOf) in y)
-        ∙ kind-here
+    module _ (f : ltb (byteClass here) 5 ≡ true) where
+      -- the token is a run, which ends at q
+      run-kind : (q : ℕ) → q ≡ p + runLength (drop p s) → runKind (runOf (drop p s)) (opensAfter (drop q s)) ≡ kindAt s at
+      unfolding kindOf
+      run-kind q d =
+          ap (λ (l : List ℕ). runKind (runOf (drop p s)) (opensAfter l)) (ap (λ (k : ℕ). drop k s) d ∙ sym (drop-drop (runLength (drop p s)) p s))
+          ∙ ap (λ (l : List ℕ). runKind (runOf l) (opensAfter (drop (runLength l) l))) (drop-cons s p h)
+          ∙ (let y : runKind (runOf (here ∷ drop (p + 1) s)) (opensAfter (drop (runLength (here ∷ drop (p + 1) s)) (here ∷ drop (p + 1) s))) ≡ kindOf (here ∷ drop (p + 1) s) = rw (f, kindOf) in y)
+          ∙ kind-here
 
-    pub run-size : (n : ℕ) → ltb (byteClass here) 5 ≡ true → n ≡ runLength (drop p s) → p + n ≡ endAt s at
-    unfolding sizeOf
-    run-size n f g =
-        ap (λ (k : ℕ). p + k) (g ∙ ap runLength (drop-cons s p h)
-        ∙ (let y : runLength (here ∷ drop (p + 1) s) ≡ sizeOf (here ∷ drop (p + 1) s) = rw (f, sizeOf) in y))
-        ∙ end-here
+      pub run-size : p + runLength (drop p s) ≡ endAt s at
+      unfolding sizeOf
+      run-size =
+          ap (λ (k : ℕ). p + k) (ap runLength (drop-cons s p h) ∙ (let y : runLength (here ∷ drop (p + 1) s) ≡ sizeOf (here ∷ drop (p + 1) s) = rw (f, sizeOf) in y))
+          ∙ end-here
+
+      -- what was sought among the listed words is the run at p
+      module _ (k n : ℕ) (is : Listed (runOf (take (length s - p) (drop p s))) k n) where
+        listed-run : Listed (runOf (drop p s)) k n
+        listed-run =
+            subst (λ (l : List ℕ). Listed (runOf l) k n) (take-all (length s - p) (drop p s) (let z : length (drop p s) ≡ length s - p = length-drop p s in omega arith)) is
+
+        pub word-token : (k ≡ 0 → ⊥) → (k ≡ kindAt s at) × (p + n ≡ endAt s at) × (p + n ≤ length s)
+        word-token u =
+            let l : runLength (drop p s) ≤ length (drop p s) = runLength-le (drop p s) in
+            let d : length (drop p s) ≡ length s - p = length-drop p s in
+            let t = length-take (runLength (drop p s)) (drop p s) in
+            let m : n ≡ length (runOf (drop p s)) = listed-run .2 u .0 in
+            let r : n ≡ runLength (drop p s) = omega arith in (
+              listed-kind (runOf (drop p s)) (opensAfter (drop (p + runLength (drop p s)) s)) k (listed-run .0) u (listed-run .2 u .1) ∙ run-kind (p + runLength (drop p s)) refl,
+              ap (λ (j : ℕ). p + j) r ∙ run-size,
+              omega arith,
+            )
+
+        pub other-token : (m q : ℕ) → k ≡ 0 → m ≡ shape 0 (runOf (drop p s)) → q ≡ p + runLength (drop p s) → otherKind m (opensAfter (drop q s)) ≡ kindAt s at
+        other-token m q z g d =
+            ap (λ (j : ℕ). otherKind j (opensAfter (drop q s))) g ∙ other-kind (runOf (drop p s)) (opensAfter (drop q s)) (sym z ∙ listed-run .0) ∙ run-kind q d
 
     module _ (not-run : ltb (byteClass here) 5 ≡ false) where
       at-full : eqb (byteClass here) 11 ≡ true → fullKind (drop (p + 1) s) ≡ kindAt s at

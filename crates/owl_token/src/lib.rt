@@ -2,11 +2,12 @@
 ghost use mathlib.Core.Path.{_≡_};
 ghost use Prim.Native.Nat.{_+_, _-_, _*_, _≤_, _<_};
 ghost use mathlib.Core.Bool.{true, false};
-ghost use lib.Dec.{ltb};
+ghost use lib.Dec.{T, ltb};
+ghost use Rattle.el.specs.Test.{everyOf};
 ghost use lib.ListN.{length, getD, drop, take};
 ghost use Rattle.owl.specs.Naming.{sameBytes};
-ghost use Rattle.owl.specs.Token.{isPlain, byteClass, between, runLength, shapes, shape, upToClose, opensAfter, wordKind, runKind, markKinds, placeAt, kindAt, endAt};
-ghost use Rattle.owl_token.specs.Keyword.{keywordKind, endsLine, AllPlain};
+ghost use Rattle.owl.specs.Token.{isPlain, byteClass, between, runLength, shapes, shape, upToClose, opensAfter, markKinds, placeAt, kindAt, endAt};
+ghost use Rattle.owl_token.specs.Keyword.{endsLine, AllPlain, runOf, Listed, otherKind};
 
 // A token: its kind, where it begins and where the text goes on.
 pub struct Token {
@@ -18,6 +19,11 @@ pub struct Token {
 pub struct Run {
     pub end: usize,
     pub shape: u8,
+}
+
+pub struct Word {
+    pub kind: u8,
+    pub size: usize,
 }
 
 fn wide(x: u8) -> usize
@@ -167,54 +173,59 @@ fn run_at(s: &[u8], at: usize) -> Run
     Run { end: i, shape: m }
 }
 
-fn same_bytes(a: &[u8], b: &[u8]) -> bool
-    ensures { λ r. ⌜ r ≡ sameBytes (now (a .entry)) (now (b .entry)) ⌝ }
+// Whether the run at the front is this word, of which every byte is one of a run.
+fn is_word(s: &[u8], w: &[u8]) -> bool
+    requires { ⌜ T (everyOf (λ b. ltb (byteClass b) 5) (now w)) ⌝ }
+    ensures { λ r. ⌜ r ≡ sameBytes (runOf (now (s .entry))) (now (w .entry)) ⌝ }
 {
-    if a.len() != b.len() {
-        return false;
-    }
     let mut i = 0;
-    while i < a.len() {
-        if a[i] != b[i] {
+    while i < w.len() {
+        if s.len() <= i {
+            return false;
+        }
+        if s[i] != w[i] {
             return false;
         }
         i += 1;
     }
-    true
+    if s.len() <= i {
+        return true;
+    }
+    !in_run(s[i])
 }
 
-// The kind of a listed word, 0 for any other.
-fn keyword(w: &[u8]) -> u8
-    ensures { λ r. ⌜ (r ≡ keywordKind (now (w .entry))) × (r < 13) ⌝ }
+// The listed word that stands at the front, sought before a run is read. Its kind is 0 if there is none.
+fn listed(s: &[u8]) -> Word
+    ensures { λ r. ⌜ Listed (runOf (now (s .entry))) (r .kind) (r .size) ⌝ }
 {
-    if same_bytes(w, b"Prefix") {
-        return 4;
+    if is_word(s, b"Prefix") {
+        return Word { kind: 4, size: 6 };
     }
-    if same_bytes(w, b"Ontology") {
-        return 5;
+    if is_word(s, b"Ontology") {
+        return Word { kind: 5, size: 8 };
     }
-    if same_bytes(w, b"Declaration") {
-        return 6;
+    if is_word(s, b"Declaration") {
+        return Word { kind: 6, size: 11 };
     }
-    if same_bytes(w, b"Class") {
-        return 7;
+    if is_word(s, b"Class") {
+        return Word { kind: 7, size: 5 };
     }
-    if same_bytes(w, b"ObjectProperty") {
-        return 8;
+    if is_word(s, b"ObjectProperty") {
+        return Word { kind: 8, size: 14 };
     }
-    if same_bytes(w, b"SubClassOf") {
-        return 9;
+    if is_word(s, b"SubClassOf") {
+        return Word { kind: 9, size: 10 };
     }
-    if same_bytes(w, b"EquivalentClasses") {
-        return 10;
+    if is_word(s, b"EquivalentClasses") {
+        return Word { kind: 10, size: 17 };
     }
-    if same_bytes(w, b"ObjectIntersectionOf") {
-        return 11;
+    if is_word(s, b"ObjectIntersectionOf") {
+        return Word { kind: 11, size: 20 };
     }
-    if same_bytes(w, b"ObjectSomeValuesFrom") {
-        return 12;
+    if is_word(s, b"ObjectSomeValuesFrom") {
+        return Word { kind: 12, size: 20 };
     }
-    0
+    Word { kind: 0, size: 0 }
 }
 
 // How far the first `>` is.
@@ -259,23 +270,10 @@ fn opens_after(s: &[u8], at: usize) -> bool
     s[p] == 40
 }
 
-fn word_kind(s: &[u8], place: usize, end: usize) -> u8
-    requires { ⌜ (place ≤ end) × (end ≤ length (now s)) ⌝ }
-    ensures { λ r. ⌜ (r ≡ wordKind (take (end - place) (drop place (now (s .entry)))) (opensAfter (drop end (now (s .entry))))) × (r < 18) ⌝ }
-{
-    let k = keyword(&s[place..end]);
-    if k != 0 {
-        return k;
-    }
-    if opens_after(s, end) {
-        return 16;
-    }
-    17
-}
-
-fn run_kind(s: &[u8], place: usize, run: Run) -> u8
-    requires { ⌜ (place ≤ run .end) × (run .end ≤ length (now s)) × (run .shape ≡ shape 0 (take (run .end - place) (drop place (now s)))) ⌝ }
-    ensures { λ r. ⌜ (r ≡ runKind (take (run .end - place) (drop place (now (s .entry)))) (opensAfter (drop (run .end) (now (s .entry))))) × (r < 18) ⌝ }
+// The kind of a run that is no listed word.
+fn run_kind(s: &[u8], run: Run) -> u8
+    requires { ⌜ run .end ≤ length (now s) ⌝ }
+    ensures { λ r. ⌜ (r ≡ otherKind (run .shape) (opensAfter (drop (run .end) (now (s .entry))))) × (r < 18) ⌝ }
 {
     if run.shape == 3 {
         return 15;
@@ -286,7 +284,10 @@ fn run_kind(s: &[u8], place: usize, run: Run) -> u8
     if run.shape == 5 {
         return 17;
     }
-    word_kind(s, place, run.end)
+    if opens_after(s, run.end) {
+        return 16;
+    }
+    17
 }
 
 pub fn token_at(s: &[u8], at: usize) -> Token
@@ -303,9 +304,17 @@ pub fn token_at(s: &[u8], at: usize) -> Token
     }
     let b = s[place];
     if in_run(b) {
+        let word = listed(&s[place..]);
+        if word.kind != 0 {
+            return Token {
+                kind: word.kind,
+                place,
+                end: place + word.size,
+            };
+        }
         let run = run_at(s, place);
         let end = run.end;
-        let kind = run_kind(s, place, run);
+        let kind = run_kind(s, run);
         return Token { kind, place, end };
     }
     if b == 60 {

@@ -174,7 +174,7 @@ skip-end s c i h = ap (λ (l : List ℕ). i + blank c l) (drop-of-length-le s {i
 abbrev pub Running : List ℕ → ℕ → ℕ → ℕ → Type 0
 Running s at i m =
     (at ≤ i) × (i ≤ length s) × (m < 6) × (at + runLength (drop at s) ≡ i + runLength (drop i s))
-    × (shape 0 (take (runLength (drop at s)) (drop at s)) ≡ shape m (take (runLength (drop i s)) (drop i s)))
+    × (shape 0 (runOf (drop at s)) ≡ shape m (runOf (drop i s)))
 
 pub running-start : (s : List ℕ) (at : ℕ) → at ≤ length s → Running s at at 0
 running-start s at h = (omega arith, h, omega arith, refl, refl)
@@ -189,7 +189,7 @@ unfolding runLength
 run-over s i h = ap runLength (drop-of-length-le s {i = i} h)
 
 ended : (s : List ℕ) (at i m : ℕ) → runLength (drop i s) ≡ 0 → Running s at i m →
-    (i ≡ at + runLength (drop at s)) × (i ≤ length s) × (m ≡ shape 0 (take (runLength (drop at s)) (drop at s))) × (m < 6)
+    (i ≡ at + runLength (drop at s)) × (i ≤ length s) × (m ≡ shape 0 (runOf (drop at s))) × (m < 6)
 unfolding shape
 ended s at i m e (a, b, c, f, g) = (
   (let z : at + runLength (drop at s) ≡ i + runLength (drop i s) = f in omega arith),
@@ -199,11 +199,11 @@ ended s at i m e (a, b, c, f, g) = (
 )
 
 pub running-stop : (s : List ℕ) (at i m : ℕ) → i < length s → ltb (byteClass (getD s i 0)) 5 ≡ false → Running s at i m →
-    (i ≡ at + runLength (drop at s)) × (i ≤ length s) × (m ≡ shape 0 (take (runLength (drop at s)) (drop at s))) × (m < 6)
+    (i ≡ at + runLength (drop at s)) × (i ≤ length s) × (m ≡ shape 0 (runOf (drop at s))) × (m < 6)
 running-stop s at i m h e r = ended s at i m (run-stops s i h e) r
 
 pub running-end : (s : List ℕ) (at i m : ℕ) → length s ≤ i → Running s at i m →
-    (i ≡ at + runLength (drop at s)) × (i ≤ length s) × (m ≡ shape 0 (take (runLength (drop at s)) (drop at s))) × (m < 6)
+    (i ≡ at + runLength (drop at s)) × (i ≤ length s) × (m ≡ shape 0 (runOf (drop at s))) × (m < 6)
 running-end s at i m h r = ended s at i m (run-over s i h) r
 
 pub running-on : (s : List ℕ) (at i m c n : ℕ) → i < length s → c ≡ byteClass (getD s i 0) → c ≤ 4 → n ≡ getD shapes (m * 5 + c) 5 → n < 6 → Running s at i m → Running s at (i + 1) n
@@ -218,7 +218,7 @@ running-on s at i m c n h e l d k (a, b, x, f, g) =
       omega arith,
       k,
       (let z : at + runLength (drop at s) ≡ i + runLength (drop i s) = f in omega arith),
-      g ∙ ap (λ (w : List ℕ). shape m (take (runLength w) w)) (drop-cons s i h) ∙ ap (λ (j : ℕ). shape m (take j (byte ∷ rest))) more
+      g ∙ ap (λ (w : List ℕ). shape m (runOf w)) (drop-cons s i h) ∙ ap (λ (j : ℕ). shape m (take j (byte ∷ rest))) more
           ∙ ap (λ (j : ℕ). shape j (take (runLength rest) rest)) (ap (λ (j : ℕ). getD shapes (m * 5 + j) 5) (sym e) ∙ sym d),
     )
 

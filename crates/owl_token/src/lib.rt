@@ -1,10 +1,10 @@
 // The tokens of a text. There is no token list: a token is found from a position, by its bytes alone.
 ghost use mathlib.Core.Path.{_≡_};
-ghost use Prim.Native.Nat.{_+_, _-_, _*_, _≤_, _<_};
 ghost use mathlib.Core.Bool.{true, false};
+ghost use Prim.Native.Nat.{_+_, _*_, _≤_, _<_};
 ghost use lib.Dec.{T, ltb};
+ghost use lib.ListN.{length, getD, drop};
 ghost use Rattle.el.specs.Test.{everyOf};
-ghost use lib.ListN.{length, getD, drop, take};
 ghost use Rattle.owl.specs.Naming.{sameBytes};
 ghost use Rattle.owl.specs.Token.{isPlain, byteClass, between, runLength, shapes, shape, upToClose, opensAfter, markKinds, placeAt, kindAt, endAt};
 ghost use Rattle.owl_token.specs.Keyword.{endsLine, AllPlain, runOf, Listed, otherKind};
@@ -16,11 +16,13 @@ pub struct Token {
     pub end: usize,
 }
 
+// A run: where it ends, and what it is (`shapes`).
 pub struct Run {
     pub end: usize,
     pub shape: u8,
 }
 
+// A listed word.
 pub struct Word {
     pub kind: u8,
     pub size: usize,
@@ -154,7 +156,7 @@ fn plain_end(s: &[u8], at: usize) -> usize
 // The run at a position: where it ends, and what it is. Its shape does not change from one plain byte to the next.
 fn run_at(s: &[u8], at: usize) -> Run
     requires { ⌜ at ≤ length (now s) ⌝ }
-    ensures { λ r. ⌜ (r .end ≡ at + runLength (drop at (now (s .entry)))) × (r .end ≤ length (now (s .entry))) × (r .shape ≡ shape 0 (take (runLength (drop at (now (s .entry)))) (drop at (now (s .entry))))) × (r .shape < 6) ⌝ }
+    ensures { λ r. ⌜ (r .end ≡ at + runLength (drop at (now (s .entry)))) × (r .end ≤ length (now (s .entry))) × (r .shape ≡ shape 0 (runOf (drop at (now (s .entry))))) × (r .shape < 6) ⌝ }
 {
     let mut i = at;
     let mut m = 0;

@@ -18,6 +18,8 @@ use lib.Dec.{eqb, ltb}
 use lib.ListN.{length}
 use borrow.Author.Tests.{lt-ltb, le-ltb, le-leb, lt-leb, eq-eqb, ne-eqb}
 use Rattle.el.specs.Table.{constantF, variableF, Entry, constant, restriction, variable, Row, Line, Table}
+use Rattle.answer.specs.declared.Answer.{Answer}
+use Rattle.answer.specs.declared.Answer.the-variants.{EndsEarly, WrongMark, WrongVersion, OverBound, NotAllowed, BytesAfter}
 use Rattle.table.specs.declared.Kind.the-variants.{Top, Constant, Restriction, Variable, Other}
 use Rattle.table.specs.declared.Step.{Step}
 use Rattle.table.specs.declared.Step.the-variants.{Next, Stop}
@@ -82,14 +84,14 @@ module _ (c r v b : ℕ) where
 
 ------------------------------------------------------------------ steps
 
-pub stop-if : {A : Type 0} (t : Bool) (n p : ℕ) (x : Read A) → t ≡ true → Stop n p ≡ stepOf (refuseIf t n p x)
+pub stop-if : {A : Type 0} (t : Bool) (why : Answer) (x : Read A) → t ≡ true → Stop why ≡ stepOf (refuseIf t why x)
 unfolding stepOf
-stop-if t n p x e = rw e
+stop-if t why x e = rw e
 
-pub pass-if : {A : Type 0} (t : Bool) (n p : ℕ) (x : Read A) (z : Step) → t ≡ false → z ≡ stepOf x → z ≡ stepOf (refuseIf t n p x)
-pass-if t n p x z e q = rw e q
+pub pass-if : {A : Type 0} (t : Bool) (why : Answer) (x : Read A) (z : Step) → t ≡ false → z ≡ stepOf x → z ≡ stepOf (refuseIf t why x)
+pass-if t why x z e q = rw e q
 
-pub stop-code : {A : Type 0} (at : ℕ) (o : Option A) → isSome o ≡ false → Stop 5 at ≡ stepOf (orRefused at o)
+pub stop-code : {A : Type 0} (at : ℕ) (o : Option A) → isSome o ≡ false → Stop (NotAllowed at) ≡ stepOf (orRefused at o)
 unfolding stepOf isSome
 stop-code at none e = refl
 stop-code at (some a) e = absurd (true≢false e)
@@ -99,22 +101,22 @@ unfolding stepOf isSome
 next-code at none e = absurd (true≢false (sym e))
 next-code at (some a) e = refl
 
-next-stop : (at n p : ℕ) → Next at ≡ Stop n p → ⊥
-next-stop at n p q = let z : _≡_ {A = ℕ} 0 1 = cc in omega arith
+next-stop : (at : ℕ) (why : Answer) → Next at ≡ Stop why → ⊥
+next-stop at why q = let z : _≡_ {A = ℕ} 0 1 = cc in omega arith
 
-pub then-stop : {A B : Type 0} (x : Read A) (f : A → ℕ → Read B) (n p : ℕ) → stepOf x ≡ Stop n p → stepOf (andThen x f) ≡ Stop n p
+pub then-stop : {A B : Type 0} (x : Read A) (f : A → ℕ → Read B) (why : Answer) → stepOf x ≡ Stop why → stepOf (andThen x f) ≡ Stop why
 unfolding stepOf
-then-stop (refused m q) f n p e = e
-then-stop (got a at) f n p e = absurd (next-stop at n p e)
+then-stop (refused was) f why e = e
+then-stop (got a at) f why e = absurd (next-stop at why e)
 
 pub then-next : {A B : Type 0} (x : Read A) (f : A → ℕ → Read B) (at : ℕ) (z : Step) → stepOf x ≡ Next at → ((a : A) → stepOf (f a at) ≡ z) → stepOf (andThen x f) ≡ z
 unfolding stepOf
-then-next (refused m q) f at z e g = absurd (next-stop at m q (sym e))
+then-next (refused was) f at z e g = absurd (next-stop at was (sym e))
 then-next (got a end) f at z e g = let w : end ≡ at = cc in rw w (g a)
 
 pub then-last : {A B : Type 0} (x : Read A) (f : A → B) → stepOf (andThen x (λ a end. got (f a) end)) ≡ stepOf x
 unfolding stepOf
-then-last (refused n p) f = refl
+then-last (refused why) f = refl
 then-last (got a at) f = refl
 
 -- many of a kind, one after the other
@@ -133,8 +135,8 @@ module _ {A : Type 0} (one : ℕ → Read A) where
   unfolding readMany
   fewer count k at h = ap (λ (k : ℕ). stepOf (readMany one k at)) (let e : count - k ≡ suc (count - (k + 1)) = omega arith in e)
 
-  pub turn-stop : (count k at n p : ℕ) → k < count → stepOf (one at) ≡ Stop n p → stepOf (readMany one (count - k) at) ≡ Stop n p
-  turn-stop count k at n p h q = fewer count k at h ∙ then-stop (one at) (thenMany (count - (k + 1))) n p q
+  pub turn-stop : (count k at : ℕ) (why : Answer) → k < count → stepOf (one at) ≡ Stop why → stepOf (readMany one (count - k) at) ≡ Stop why
+  turn-stop count k at why h q = fewer count k at h ∙ then-stop (one at) (thenMany (count - (k + 1))) why q
 
   pub turn-next : (count k at next : ℕ) → k < count → stepOf (one at) ≡ Next next → stepOf (readMany one (count - k) at) ≡ stepOf (readMany one (count - (k + 1)) next)
   turn-next count k at next h q =
@@ -165,112 +167,112 @@ module _ (s : List ℕ) where
   unfolding versionOne
   version-1 g = simp (eq-eqb (byteAt s 3) 1 g)
 
-  pub header-short : length s < 10 → Stop 1 (length s) ≡ stepOf (readHeader s)
+  pub header-short : length s < 10 → Stop (EndsEarly (length s)) ≡ stepOf (readHeader s)
   unfolding readHeader
-  header-short h = stop-if _ _ _ _ (lt-ltb (length s) 10 h)
+  header-short h = stop-if _ _ _ (lt-ltb (length s) 10 h)
 
-  pub header-mark : 10 ≤ length s → marked s ≡ false → Stop 2 0 ≡ stepOf (readHeader s)
+  pub header-mark : 10 ≤ length s → marked s ≡ false → Stop WrongMark ≡ stepOf (readHeader s)
   unfolding readHeader
-  header-mark h w = pass-if _ _ _ _ _ (le-ltb (length s) 10 h) (stop-if _ _ _ _ (ap not w))
+  header-mark h w = pass-if _ _ _ _ (le-ltb (length s) 10 h) (stop-if _ _ _ (ap not w))
 
   module _ (h : 10 ≤ length s) (mark : marked s ≡ true) where
-    pub header-version : versionOne s ≡ false → Stop 3 3 ≡ stepOf (readHeader s)
+    pub header-version : versionOne s ≡ false → Stop WrongVersion ≡ stepOf (readHeader s)
     unfolding readHeader
-    header-version w = pass-if _ _ _ _ _ (le-ltb (length s) 10 h) (pass-if _ _ _ _ _ (ap not mark) (stop-if _ _ _ _ (ap not w)))
+    header-version w = pass-if _ _ _ _ (le-ltb (length s) 10 h) (pass-if _ _ _ _ (ap not mark) (stop-if _ _ _ (ap not w)))
 
     module _ (version : versionOne s ≡ true) where
       counts : (z : Step)
-          → z ≡ stepOf (refuseIf (ltb maxRoles (headerOf s .r)) 4 6 (refuseIf (ltb maxVariables (headerOf s .v)) 4 7 (refuseIf (ltb maxAtoms (headerOf s .c + headerOf s .e)) 4 8 (refuseIf (ltb maxLines (headerOf s .m)) 4 9 (got (headerOf s) 10)))))
+          → z ≡ stepOf (refuseIf (ltb maxRoles (headerOf s .r)) (OverBound 6) (refuseIf (ltb maxVariables (headerOf s .v)) (OverBound 7) (refuseIf (ltb maxAtoms (headerOf s .c + headerOf s .e)) (OverBound 8) (refuseIf (ltb maxLines (headerOf s .m)) (OverBound 9) (got (headerOf s) 10)))))
           → z ≡ stepOf (readHeader s)
       unfolding readHeader
-      counts z q = pass-if _ _ _ _ z (le-ltb (length s) 10 h) (pass-if _ _ _ _ z (ap not mark) (pass-if _ _ _ _ z (ap not version) q))
+      counts z q = pass-if _ _ _ z (le-ltb (length s) 10 h) (pass-if _ _ _ z (ap not mark) (pass-if _ _ _ z (ap not version) q))
 
-      pub header-roles : maxRoles < headerOf s .r → Stop 4 6 ≡ stepOf (readHeader s)
-      header-roles w = counts _ (stop-if _ _ _ _ (lt-ltb maxRoles (headerOf s .r) w))
+      pub header-roles : maxRoles < headerOf s .r → Stop (OverBound 6) ≡ stepOf (readHeader s)
+      header-roles w = counts _ (stop-if _ _ _ (lt-ltb maxRoles (headerOf s .r) w))
 
       module _ (roles : headerOf s .r ≤ maxRoles) where
-        pub header-variables : maxVariables < headerOf s .v → Stop 4 7 ≡ stepOf (readHeader s)
-        header-variables w = counts _ (pass-if _ _ _ _ _ (le-ltb maxRoles (headerOf s .r) roles) (stop-if _ _ _ _ (lt-ltb maxVariables (headerOf s .v) w)))
+        pub header-variables : maxVariables < headerOf s .v → Stop (OverBound 7) ≡ stepOf (readHeader s)
+        header-variables w = counts _ (pass-if _ _ _ _ (le-ltb maxRoles (headerOf s .r) roles) (stop-if _ _ _ (lt-ltb maxVariables (headerOf s .v) w)))
 
         module _ (variables : headerOf s .v ≤ maxVariables) where
-          pub header-atoms : maxAtoms < headerOf s .c + headerOf s .e → Stop 4 8 ≡ stepOf (readHeader s)
+          pub header-atoms : maxAtoms < headerOf s .c + headerOf s .e → Stop (OverBound 8) ≡ stepOf (readHeader s)
           header-atoms w =
               counts _
-              (pass-if _ _ _ _ _ (le-ltb maxRoles (headerOf s .r) roles)
-              (pass-if _ _ _ _ _ (le-ltb maxVariables (headerOf s .v) variables)
-              (stop-if _ _ _ _ (lt-ltb maxAtoms (headerOf s .c + headerOf s .e) w))))
+              (pass-if _ _ _ _ (le-ltb maxRoles (headerOf s .r) roles)
+              (pass-if _ _ _ _ (le-ltb maxVariables (headerOf s .v) variables)
+              (stop-if _ _ _ (lt-ltb maxAtoms (headerOf s .c + headerOf s .e) w))))
 
           module _ (atoms : headerOf s .c + headerOf s .e ≤ maxAtoms) where
-            pub header-lines : maxLines < headerOf s .m → Stop 4 9 ≡ stepOf (readHeader s)
+            pub header-lines : maxLines < headerOf s .m → Stop (OverBound 9) ≡ stepOf (readHeader s)
             header-lines w =
                 counts _
-                (pass-if _ _ _ _ _ (le-ltb maxRoles (headerOf s .r) roles)
-                (pass-if _ _ _ _ _ (le-ltb maxVariables (headerOf s .v) variables)
-                (pass-if _ _ _ _ _ (le-ltb maxAtoms (headerOf s .c + headerOf s .e) atoms)
-                (stop-if _ _ _ _ (lt-ltb maxLines (headerOf s .m) w)))))
+                (pass-if _ _ _ _ (le-ltb maxRoles (headerOf s .r) roles)
+                (pass-if _ _ _ _ (le-ltb maxVariables (headerOf s .v) variables)
+                (pass-if _ _ _ _ (le-ltb maxAtoms (headerOf s .c + headerOf s .e) atoms)
+                (stop-if _ _ _ (lt-ltb maxLines (headerOf s .m) w)))))
 
             pub header-all : headerOf s .m ≤ maxLines → Next 10 ≡ stepOf (readHeader s)
             unfolding stepOf
             header-all w =
                 counts _
-                (pass-if _ _ _ _ _ (le-ltb maxRoles (headerOf s .r) roles)
-                (pass-if _ _ _ _ _ (le-ltb maxVariables (headerOf s .v) variables)
-                (pass-if _ _ _ _ _ (le-ltb maxAtoms (headerOf s .c + headerOf s .e) atoms)
-                (pass-if _ _ _ _ _ (le-ltb maxLines (headerOf s .m) w) refl))))
+                (pass-if _ _ _ _ (le-ltb maxRoles (headerOf s .r) roles)
+                (pass-if _ _ _ _ (le-ltb maxVariables (headerOf s .v) variables)
+                (pass-if _ _ _ _ (le-ltb maxAtoms (headerOf s .c + headerOf s .e) atoms)
+                (pass-if _ _ _ _ (le-ltb maxLines (headerOf s .m) w) refl))))
 
 ------------------------------------------------------------------ rows, entries, lines
 
 module _ (s : List ℕ) (h : Header) where
-  pub row-short : (at : ℕ) → length s ≤ at → Stop 1 (length s) ≡ stepOf (readRow s h at)
+  pub row-short : (at : ℕ) → length s ≤ at → Stop (EndsEarly (length s)) ≡ stepOf (readRow s h at)
   unfolding readRow
-  row-short at w = stop-if _ _ _ _ (le-leb (length s) at w)
+  row-short at w = stop-if _ _ _ (le-leb (length s) at w)
 
-  pub row-role : (at : ℕ) → at < length s → h .r ≤ byteAt s at → Stop 5 at ≡ stepOf (readRow s h at)
+  pub row-role : (at : ℕ) → at < length s → h .r ≤ byteAt s at → Stop (NotAllowed at) ≡ stepOf (readRow s h at)
   unfolding readRow
-  row-role at l w = pass-if _ _ _ _ _ (lt-leb (length s) at l) (stop-if _ _ _ _ (le-leb (h .r) (byteAt s at) w))
+  row-role at l w = pass-if _ _ _ _ (lt-leb (length s) at l) (stop-if _ _ _ (le-leb (h .r) (byteAt s at) w))
 
   module _ (at : ℕ) (l : at < length s) (role : byteAt s at < h .r) where
-    pub row-half : length s ≤ at + 1 → Stop 1 (length s) ≡ stepOf (readRow s h at)
+    pub row-half : length s ≤ at + 1 → Stop (EndsEarly (length s)) ≡ stepOf (readRow s h at)
     unfolding readRow
     row-half w =
-        pass-if _ _ _ _ _ (lt-leb (length s) at l)
-        (pass-if _ _ _ _ _ (lt-leb (h .r) (byteAt s at) role)
-        (stop-if _ _ _ _ (le-leb (length s) (at + 1) w)))
+        pass-if _ _ _ _ (lt-leb (length s) at l)
+        (pass-if _ _ _ _ (lt-leb (h .r) (byteAt s at) role)
+        (stop-if _ _ _ (le-leb (length s) (at + 1) w)))
 
     module _ (inside : at + 1 < length s) where
       row-code : (z : Step) → z ≡ stepOf (orRefused (at + 1) (fillerOf (h .c) (h .v) (byteAt s (at + 1)))) → z ≡ stepOf (readRow s h at)
       unfolding readRow
       row-code z q =
-          pass-if _ _ _ _ z (lt-leb (length s) at l)
-          (pass-if _ _ _ _ z (lt-leb (h .r) (byteAt s at) role)
-          (pass-if _ _ _ _ z (lt-leb (length s) (at + 1) inside)
+          pass-if _ _ _ z (lt-leb (length s) at l)
+          (pass-if _ _ _ z (lt-leb (h .r) (byteAt s at) role)
+          (pass-if _ _ _ z (lt-leb (length s) (at + 1) inside)
           (q ∙ sym (then-last (orRefused (at + 1) (fillerOf (h .c) (h .v) (byteAt s (at + 1)))) (λ f. record { role = byteAt s at; filler = f })))))
 
-      pub row-filler : isSome (fillerOf (h .c) (h .v) (byteAt s (at + 1))) ≡ false → Stop 5 (at + 1) ≡ stepOf (readRow s h at)
+      pub row-filler : isSome (fillerOf (h .c) (h .v) (byteAt s (at + 1))) ≡ false → Stop (NotAllowed (at + 1)) ≡ stepOf (readRow s h at)
       row-filler w = row-code _ (stop-code (at + 1) _ w)
 
       pub row-all : isSome (fillerOf (h .c) (h .v) (byteAt s (at + 1))) ≡ true → Next (at + 2) ≡ stepOf (readRow s h at)
       row-all w = row-code _ (ap Next (let e : at + 2 ≡ at + 1 + 1 = omega arith in e) ∙ next-code (at + 1) _ w)
 
-  pub entry-short : (at : ℕ) → length s ≤ at → Stop 1 (length s) ≡ stepOf (readEntry s h at)
+  pub entry-short : (at : ℕ) → length s ≤ at → Stop (EndsEarly (length s)) ≡ stepOf (readEntry s h at)
   unfolding readEntry
-  entry-short at w = stop-if _ _ _ _ (le-leb (length s) at w)
+  entry-short at w = stop-if _ _ _ (le-leb (length s) at w)
 
-  pub entry-code : (at : ℕ) → at < length s → isSome (entryOf (h .c) (h .e) (h .v) (byteAt s at)) ≡ false → Stop 5 at ≡ stepOf (readEntry s h at)
+  pub entry-code : (at : ℕ) → at < length s → isSome (entryOf (h .c) (h .e) (h .v) (byteAt s at)) ≡ false → Stop (NotAllowed at) ≡ stepOf (readEntry s h at)
   unfolding readEntry
-  entry-code at l w = pass-if _ _ _ _ _ (lt-leb (length s) at l) (stop-code at _ w)
+  entry-code at l w = pass-if _ _ _ _ (lt-leb (length s) at l) (stop-code at _ w)
 
   pub entry-all : (at : ℕ) → at < length s → isSome (entryOf (h .c) (h .e) (h .v) (byteAt s at)) ≡ true → Next (at + 1) ≡ stepOf (readEntry s h at)
   unfolding readEntry
-  entry-all at l w = pass-if _ _ _ _ _ (lt-leb (length s) at l) (next-code at _ w)
+  entry-all at l w = pass-if _ _ _ _ (lt-leb (length s) at l) (next-code at _ w)
 
-  pub line-short : (at : ℕ) → length s ≤ at → Stop 1 (length s) ≡ stepOf (readLine s h at)
+  pub line-short : (at : ℕ) → length s ≤ at → Stop (EndsEarly (length s)) ≡ stepOf (readLine s h at)
   unfolding readLine
-  line-short at w = stop-if _ _ _ _ (le-leb (length s) at w)
+  line-short at w = stop-if _ _ _ (le-leb (length s) at w)
 
-  pub line-left : (at : ℕ) → at < length s → maxLeft < byteAt s at → Stop 4 at ≡ stepOf (readLine s h at)
+  pub line-left : (at : ℕ) → at < length s → maxLeft < byteAt s at → Stop (OverBound at) ≡ stepOf (readLine s h at)
   unfolding readLine
-  line-left at l w = pass-if _ _ _ _ _ (lt-leb (length s) at l) (stop-if _ _ _ _ (lt-ltb maxLeft (byteAt s at) w))
+  line-left at l w = pass-if _ _ _ _ (lt-leb (length s) at l) (stop-if _ _ _ (lt-ltb maxLeft (byteAt s at) w))
 
   module _ (at : ℕ) where
     abbrev thenRight : List Entry → ℕ → Read Line
@@ -278,13 +280,13 @@ module _ (s : List ℕ) (h : Header) where
 
     line-entries : (z : Step) → at < length s → byteAt s at ≤ maxLeft → stepOf (andThen (readEntries s h (byteAt s at) (at + 1)) thenRight) ≡ z → z ≡ stepOf (readLine s h at)
     unfolding readLine
-    line-entries z l few q = pass-if _ _ _ _ z (lt-leb (length s) at l) (pass-if _ _ _ _ z (le-ltb maxLeft (byteAt s at) few) (sym q))
+    line-entries z l few q = pass-if _ _ _ z (lt-leb (length s) at l) (pass-if _ _ _ z (le-ltb maxLeft (byteAt s at) few) (sym q))
 
     counted : (count : ℕ) → count ≡ byteAt s at → stepOf (readEntries s h (byteAt s at) (at + 1)) ≡ stepOf (readEntries s h count (at + 1))
     counted count same = ap (λ (k : ℕ). stepOf (readEntries s h k (at + 1))) (sym same)
 
-    pub line-stop : (count n p : ℕ) → stepOf (readEntries s h count (at + 1)) ≡ Stop n p → at < length s → count ≡ byteAt s at → byteAt s at ≤ maxLeft → Stop n p ≡ stepOf (readLine s h at)
-    line-stop count n p q l same few = line-entries _ l few (then-stop (readEntries s h (byteAt s at) (at + 1)) thenRight n p (counted count same ∙ q))
+    pub line-stop : (count : ℕ) (why : Answer) → stepOf (readEntries s h count (at + 1)) ≡ Stop why → at < length s → count ≡ byteAt s at → byteAt s at ≤ maxLeft → Stop why ≡ stepOf (readLine s h at)
+    line-stop count why q l same few = line-entries _ l few (then-stop (readEntries s h (byteAt s at) (at + 1)) thenRight why (counted count same ∙ q))
 
     pub line-right : (count next : ℕ) → stepOf (readEntries s h count (at + 1)) ≡ Next next → at < length s → count ≡ byteAt s at → byteAt s at ≤ maxLeft → stepOf (readEntry s h next) ≡ stepOf (readLine s h at)
     line-right count next q l same few =
@@ -295,7 +297,7 @@ module _ (s : List ℕ) (h : Header) where
   ---------------------------------------------------------------- the body
 
   abbrev lastly : List Row → List Line → ℕ → Read Table
-  lastly rows lines end = refuseIf (ltb end (length s)) 6 end (got (record { constants = h .c; roles = h .r; variables = h .v; rows = rows; lines = lines }) end)
+  lastly rows lines end = refuseIf (ltb end (length s)) (BytesAfter end) (got (record { constants = h .c; roles = h .r; variables = h .v; rows = rows; lines = lines }) end)
 
   abbrev thenLines : List Row → ℕ → Read Table
   thenLines rows next = andThen (readLines s h (h .m) next) (lastly rows)
@@ -308,8 +310,8 @@ module _ (s : List ℕ) (h : Header) where
     rows-counted : stepOf (readRows s h (h .e) 10) ≡ stepOf (readRows s h rows 10)
     rows-counted = ap (λ (k : ℕ). stepOf (readRows s h k 10)) (sym same-rows)
 
-    pub body-rows : (n p : ℕ) → stepOf (readRows s h rows 10) ≡ Stop n p → Stop n p ≡ stepOf (readBody s h)
-    body-rows n p q = sym (body-opened ∙ then-stop (readRows s h (h .e) 10) thenLines n p (rows-counted ∙ q))
+    pub body-rows : (why : Answer) → stepOf (readRows s h rows 10) ≡ Stop why → Stop why ≡ stepOf (readBody s h)
+    body-rows why q = sym (body-opened ∙ then-stop (readRows s h (h .e) 10) thenLines why (rows-counted ∙ q))
 
     module _ (next : ℕ) (past-rows : stepOf (readRows s h rows 10) ≡ Next next) (lines : ℕ) (same-lines : lines ≡ h .m) where
       lines-counted : stepOf (readLines s h (h .m) next) ≡ stepOf (readLines s h lines next)
@@ -318,15 +320,15 @@ module _ (s : List ℕ) (h : Header) where
       body-then : (z : Step) → ((l : List Row) → stepOf (thenLines l next) ≡ z) → z ≡ stepOf (readBody s h)
       body-then z g = sym (body-opened ∙ then-next (readRows s h (h .e) 10) thenLines next z (rows-counted ∙ past-rows) g)
 
-      pub body-lines : (n p : ℕ) → stepOf (readLines s h lines next) ≡ Stop n p → Stop n p ≡ stepOf (readBody s h)
-      body-lines n p q = body-then _ (λ l. then-stop (readLines s h (h .m) next) (lastly l) n p (lines-counted ∙ q))
+      pub body-lines : (why : Answer) → stepOf (readLines s h lines next) ≡ Stop why → Stop why ≡ stepOf (readBody s h)
+      body-lines why q = body-then _ (λ l. then-stop (readLines s h (h .m) next) (lastly l) why (lines-counted ∙ q))
 
-      pub body-after : (end : ℕ) → stepOf (readLines s h lines next) ≡ Next end → end < length s → Stop 6 end ≡ stepOf (readBody s h)
-      body-after end q w = body-then _ (λ l. then-next (readLines s h (h .m) next) (lastly l) end _ (lines-counted ∙ q) (λ k. sym (stop-if _ _ _ _ (lt-ltb end (length s) w))))
+      pub body-after : (end : ℕ) → stepOf (readLines s h lines next) ≡ Next end → end < length s → Stop (BytesAfter end) ≡ stepOf (readBody s h)
+      body-after end q w = body-then _ (λ l. then-next (readLines s h (h .m) next) (lastly l) end _ (lines-counted ∙ q) (λ k. sym (stop-if _ _ _ (lt-ltb end (length s) w))))
 
       pub body-all : (end : ℕ) → stepOf (readLines s h lines next) ≡ Next end → length s ≤ end → Next end ≡ stepOf (readBody s h)
       unfolding stepOf
-      body-all end q w = body-then _ (λ l. then-next (readLines s h (h .m) next) (lastly l) end _ (lines-counted ∙ q) (λ k. sym (pass-if _ _ _ _ _ (le-ltb end (length s) w) refl)))
+      body-all end q w = body-then _ (λ l. then-next (readLines s h (h .m) next) (lastly l) end _ (lines-counted ∙ q) (λ k. sym (pass-if _ _ _ _ (le-ltb end (length s) w) refl)))
 
 ------------------------------------------------------------------ the whole
 
@@ -336,37 +338,37 @@ module _ (s : List ℕ) where
   header-in at q = go (readHeader s) refl q
     where
       go : (x : Read Header) → readHeader s ≡ x → stepOf x ≡ Next at → 10 ≤ length s
-      go (refused n p) e q = absurd (next-stop at n p (sym q))
+      go (refused why) e q = absurd (next-stop at why (sym q))
       go (got h end) e q = header-read s h end e .inside
 
-  pub check-header : (n p : ℕ) → stepOf (readHeader s) ≡ Stop n p → Refused n p ≡ verdictOf (reading s)
+  pub check-header : (why : Answer) → stepOf (readHeader s) ≡ Stop why → Refused why ≡ verdictOf (reading s)
   unfolding reading stepOf verdictOf
-  check-header n p q = go (readHeader s) q
+  check-header why q = go (readHeader s) q
     where
-      go : (x : Read Header) → stepOf x ≡ Stop n p → Refused n p ≡ verdictOf (fromHeader s x)
-      go (refused m k) q = (let a : m ≡ n = cc in let b : k ≡ p = cc in rw (a, b))
-      go (got h at) q = absurd (next-stop at n p q)
+      go : (x : Read Header) → stepOf x ≡ Stop why → Refused why ≡ verdictOf (fromHeader s x)
+      go (refused was) q = (let a : was ≡ why = cc in rw a)
+      go (got h at) q = absurd (next-stop at why q)
 
   check-opened : (at : ℕ) → stepOf (readHeader s) ≡ Next at → reading s ≡ whole (headerOf s) (readBody s (headerOf s))
   unfolding reading stepOf
   check-opened at q = go (readHeader s) refl q
     where
       go : (x : Read Header) → readHeader s ≡ x → stepOf x ≡ Next at → fromHeader s x ≡ whole (headerOf s) (readBody s (headerOf s))
-      go (refused n p) e q = absurd (next-stop at n p (sym q))
+      go (refused why) e q = absurd (next-stop at why (sym q))
       go (got h end) e q = ap (λ (k : Header). whole k (readBody s k)) (header-read s h end e .same)
 
-  pub check-body : (at n p : ℕ) → stepOf (readHeader s) ≡ Next at → stepOf (readBody s (headerOf s)) ≡ Stop n p → Refused n p ≡ verdictOf (reading s)
+  pub check-body : (at : ℕ) (why : Answer) → stepOf (readHeader s) ≡ Next at → stepOf (readBody s (headerOf s)) ≡ Stop why → Refused why ≡ verdictOf (reading s)
   unfolding stepOf verdictOf
-  check-body at n p e q = go (readBody s (headerOf s)) q ∙ ap verdictOf (sym (check-opened at e))
+  check-body at why e q = go (readBody s (headerOf s)) q ∙ ap verdictOf (sym (check-opened at e))
     where
-      go : (x : Read Table) → stepOf x ≡ Stop n p → Refused n p ≡ verdictOf (whole (headerOf s) x)
-      go (refused m k) q = (let a : m ≡ n = cc in let b : k ≡ p = cc in rw (a, b))
-      go (got t end) q = absurd (next-stop end n p q)
+      go : (x : Read Table) → stepOf x ≡ Stop why → Refused why ≡ verdictOf (whole (headerOf s) x)
+      go (refused was) q = (let a : was ≡ why = cc in rw a)
+      go (got t end) q = absurd (next-stop end why q)
 
   pub check-all : (at end : ℕ) → stepOf (readHeader s) ≡ Next at → stepOf (readBody s (headerOf s)) ≡ Next end → Readable ≡ verdictOf (reading s)
   unfolding stepOf verdictOf
   check-all at end e q = go (readBody s (headerOf s)) q ∙ ap verdictOf (sym (check-opened at e))
     where
       go : (x : Read Table) → stepOf x ≡ Next end → Readable ≡ verdictOf (whole (headerOf s) x)
-      go (refused m k) q = absurd (next-stop end m k (sym q))
+      go (refused was) q = absurd (next-stop end was (sym q))
       go (got t at) q = refl

@@ -27,6 +27,8 @@ use borrow.Author.Tests.{ltb-true, ltb-false, leb-false, lt-ltb, le-ltb, lt-leb,
 use Rattle.el.specs.Test.{everyOf}
 use Rattle.el.specs.TestLaws.{is-true, true-is, and-make, and-left, and-right}
 use Rattle.el.specs.Table.{Filler, topF, constantF, variableF, Entry, constant, restriction, variable, Row, Line, Table, fillerDeclared, rowDeclared, entryDeclared, lineDeclared}
+use Rattle.answer.specs.declared.Answer.{Answer}
+use Rattle.answer.specs.declared.Answer.the-variants.{EndsEarly, WrongMark, WrongVersion, OverBound, NotAllowed, BytesAfter}
 use Rattle.table.specs.declared.Kind.{Kind}
 use Rattle.table.specs.declared.Kind.the-variants.{Top, Constant, Restriction, Variable, Other}
 use Rattle.table.specs.Code.{kindOf, within, fillerOfKind, fillerOf, entryOfKind, entryOf}
@@ -37,11 +39,11 @@ use Rattle.table.specs.ManyLaws.{refused-got, refuse-got, then-got, got-
 use Rattle.table.specs.LayoutLaws.{row-read, entry-read, header-read}
 use Rattle.table.specs.Bytes.{fillerCode, entryCode, writtenHeader, writtenRow, writtenEntry, writtenLine, bytesWith, countsOf, bytesOf, Within, lineRight, Right, Fits, IsTable}
 
-pub if-passed : {A : Type 0} (t : Bool) (n p : ℕ) (x : Read A) → t ≡ false → refuseIf t n p x ≡ x
-if-passed t n p x e = ap (λ (u : Bool). refuseIf u n p x) e
+pub if-passed : {A : Type 0} (t : Bool) (why : Answer) (x : Read A) → t ≡ false → refuseIf t why x ≡ x
+if-passed t why x e = ap (λ (u : Bool). refuseIf u why x) e
 
-pub if-refused : {A : Type 0} (t : Bool) (n p : ℕ) (x : Read A) → t ≡ true → refuseIf t n p x ≡ refused n p
-if-refused t n p x e = ap (λ (u : Bool). refuseIf u n p x) e
+pub if-refused : {A : Type 0} (t : Bool) (why : Answer) (x : Read A) → t ≡ true → refuseIf t why x ≡ refused why
+if-refused t why x e = ap (λ (u : Bool). refuseIf u why x) e
 
 ------------------------------------------------------------------ what stands at a place
 
@@ -139,9 +141,9 @@ module _ (s : List ℕ) (h : Header) (rows : List Row) (lines : List Line) where
       let role : byteAt s at < h .r = subst (λ (k : ℕ). k < h .r) (sym (a .1)) (ltb→lt (row .role) (h .r) (and-left (ltb (row .role) (h .r)) (fillerDeclared built (row .filler)) d)) in
       let code : fillerOf (h .c) (h .v) (byteAt s (at + 1)) ≡ some (row .filler) =
       ap (fillerOf (h .c) (h .v)) (b .1) ∙ filler-is built few (row .filler) (and-right (ltb (row .role) (h .r)) (fillerDeclared built (row .filler)) d) in
-      if-passed _ _ _ _ (lt-leb (length s) at (a .0))
-      ∙ if-passed _ _ _ _ (lt-leb (h .r) (byteAt s at) role)
-      ∙ if-passed _ _ _ _ (lt-leb (length s) (at + 1) (b .0))
+      if-passed _ _ _ (lt-leb (length s) at (a .0))
+      ∙ if-passed _ _ _ (lt-leb (h .r) (byteAt s at) role)
+      ∙ if-passed _ _ _ (lt-leb (length s) (at + 1) (b .0))
       ∙ ap (λ (o : Option Filler). andThen (orRefused (at + 1) o) (λ f next. got (record { role = byteAt s at; filler = f }) next)) code
       ∙ ap₂ (λ (k : ℕ) (n : ℕ). got (record { role = k; filler = row .filler }) n) (a .1) (let e : at + 1 + 1 ≡ at + 2 = omega arith in e)
 
@@ -165,7 +167,7 @@ module _ (s : List ℕ) (h : Header) (rows : List Row) (lines : List Line) where
       unfolding writtenEntry readEntry
       entry-reads at x tail d q =
           let a = here-byte s at (entryCode x) tail q in
-          if-passed _ _ _ _ (lt-leb (length s) at (a .0))
+          if-passed _ _ _ (lt-leb (length s) at (a .0))
           ∙ ap (orRefused at)
           (ap (entryOf (h .c) (h .e) (h .v)) (a .1)
           ∙ ap (λ (e : ℕ). entryOf (h .c) e (h .v) (entryCode x)) (sym all-rows)
@@ -179,8 +181,8 @@ module _ (s : List ℕ) (h : Header) (rows : List Row) (lines : List Line) where
     pub line-stands : (at : ℕ) (l : Line) (end : ℕ) → readLine s h at ≡ got l end → Stands s at (writtenLine l) end × T (lineRight built l)
     unfolding readLine writtenLine lineRight
     line-stands at l end q =
-        let a = refuse-got (missing s at) 1 (length s) _ l end q in
-        let b = refuse-got (ltb maxLeft (byteAt s at)) 4 at _ l end (a .1) in
+        let a = refuse-got (missing s at) (EndsEarly (length s)) _ l end q in
+        let b = refuse-got (ltb maxLeft (byteAt s at)) (OverBound at) _ l end (a .1) in
         let f = then-got (readEntries s h (byteAt s at) (at + 1)) thenRight l end (b .1) in
         let g = then-got (readEntry s h (f .1)) (λ right end. got (record { left = f .0; right = right }) end) l end (f .3) in
         let e = got-same (record { left = f .0; right = g .0 }) l (g .1) end (g .3) in
@@ -214,8 +216,8 @@ module _ (s : List ℕ) (h : Header) (rows : List Row) (lines : List Line) where
           sym (drop-drop (length (flatMap writtenEntry (l .left))) (at + 1) s) ∙ ap (drop (length (flatMap writtenEntry (l .left)))) behind ∙ drop-append-seam (flatMap writtenEntry (l .left)) (writtenEntry (l .right) ++ tail) in
           let right = entry-reads few few-rows (at + 1 + length (flatMap writtenEntry (l .left))) (l .right) tail (and-right (everyOf (entryDeclared built) (l .left)) (entryDeclared built (l .right)) known) last in
           let whole-length : length (flatMap writtenEntry (l .left) ++ writtenEntry (l .right)) ≡ length (flatMap writtenEntry (l .left)) + 1 = length-append (flatMap writtenEntry (l .left)) (writtenEntry (l .right)) in
-          if-passed _ _ _ _ (lt-leb (length s) at (a .0))
-          ∙ if-passed _ _ _ _ (le-ltb maxLeft (byteAt s at) (subst (λ (k : ℕ). k ≤ maxLeft) (sym (a .1)) left-few))
+          if-passed _ _ _ (lt-leb (length s) at (a .0))
+          ∙ if-passed _ _ _ (le-ltb maxLeft (byteAt s at) (subst (λ (k : ℕ). k ≤ maxLeft) (sym (a .1)) left-few))
           ∙ ap (λ (k : ℕ). andThen (readEntries s h k (at + 1)) thenRight) (a .1)
           ∙ ap (λ (x : Read (List Entry)). andThen x thenRight) (many-whole (readEntry s h) (l .left) (at + 1) (at + 1 + length (flatMap writtenEntry (l .left))) m)
           ∙ ap (λ (x : Read Entry). andThen x (λ right end. got (record { left = l .left; right = right }) end)) right
@@ -266,13 +268,13 @@ header-bytes s long m v =
 pub header-stands : (s : List ℕ) (h : Header) (end : ℕ) → readHeader s ≡ got h end → (s ≡ writtenHeader h ++ drop 10 s) × Within h
 unfolding readHeader
 header-stands s h end q =
-    let a = refuse-got (ltb (length s) 10) 1 (length s) _ h end q in
-    let b = refuse-got (not (marked s)) 2 0 _ h end (a .1) in
-    let d = refuse-got (not (versionOne s)) 3 3 _ h end (b .1) in
-    let r = refuse-got (ltb maxRoles (headerOf s .r)) 4 6 _ h end (d .1) in
-    let v = refuse-got (ltb maxVariables (headerOf s .v)) 4 7 _ h end (r .1) in
-    let e = refuse-got (ltb maxAtoms (headerOf s .c + headerOf s .e)) 4 8 _ h end (v .1) in
-    let m = refuse-got (ltb maxLines (headerOf s .m)) 4 9 _ h end (e .1) in
+    let a = refuse-got (ltb (length s) 10) (EndsEarly (length s)) _ h end q in
+    let b = refuse-got (not (marked s)) WrongMark _ h end (a .1) in
+    let d = refuse-got (not (versionOne s)) WrongVersion _ h end (b .1) in
+    let r = refuse-got (ltb maxRoles (headerOf s .r)) (OverBound 6) _ h end (d .1) in
+    let v = refuse-got (ltb maxVariables (headerOf s .v)) (OverBound 7) _ h end (r .1) in
+    let e = refuse-got (ltb maxAtoms (headerOf s .c + headerOf s .e)) (OverBound 8) _ h end (v .1) in
+    let m = refuse-got (ltb maxLines (headerOf s .m)) (OverBound 9) _ h end (e .1) in
     let g = got-same (headerOf s) h 10 end (m .1) in
     subst (λ (x : Header). (s ≡ writtenHeader x ++ drop 10 s) × Within x) (g .0) (
       header-bytes s (ltb-false (length s) 10 (a .0)) (true-is (marked s) (not-false (marked s) (b .0))) (true-is (versionOne s) (not-false (versionOne s) (d .0))),
@@ -287,11 +289,11 @@ header-stands s h end q =
 pub header-is : (h : Header) (tail : List ℕ) → Within h → readHeader (writtenHeader h ++ tail) ≡ got h 10
 unfolding readHeader writtenHeader marked versionOne
 header-is h tail w =
-    if-passed _ _ _ _ (le-ltb (length (writtenHeader h ++ tail)) 10 (omega arith))
-    ∙ if-passed _ _ _ _ (le-ltb maxRoles (h .r) (w .few-roles))
-    ∙ if-passed _ _ _ _ (le-ltb maxVariables (h .v) (w .few-variables))
-    ∙ if-passed _ _ _ _ (le-ltb maxAtoms (h .c + h .e) (w .few-atoms))
-    ∙ if-passed _ _ _ _ (le-ltb maxLines (h .m) (w .few-lines))
+    if-passed _ _ _ (le-ltb (length (writtenHeader h ++ tail)) 10 (omega arith))
+    ∙ if-passed _ _ _ (le-ltb maxRoles (h .r) (w .few-roles))
+    ∙ if-passed _ _ _ (le-ltb maxVariables (h .v) (w .few-variables))
+    ∙ if-passed _ _ _ (le-ltb maxAtoms (h .c + h .e) (w .few-atoms))
+    ∙ if-passed _ _ _ (le-ltb maxLines (h .m) (w .few-lines))
 
 ------------------------------------------------------------------ the whole
 
@@ -302,7 +304,7 @@ header-then s h at q = ap (fromHeader s) q
 
 module _ (s : List ℕ) (h : Header) where
   abbrev pub theRest : List Row → List Line → ℕ → Read Table
-  theRest rows lines end = refuseIf (ltb end (length s)) 6 end (got (tableWith h rows lines) end)
+  theRest rows lines end = refuseIf (ltb end (length s)) (BytesAfter end) (got (tableWith h rows lines) end)
 
   -- what was read behind the header: the rows, the lines, and nothing more
   pub record BodyStands (t : Table) : Type 0 where
@@ -320,7 +322,7 @@ module _ (s : List ℕ) (h : Header) where
   body-stands t end q =
       let f = then-got (readRows s h (h .e) 10) (λ rows next. andThen (readLines s h (h .m) next) (theRest rows)) t end q in
       let g = then-got (readLines s h (h .m) (f .1)) (theRest (f .0)) t end (f .3) in
-      let a = refuse-got (ltb (g .1) (length s)) 6 (g .1) _ t end (g .3) in
+      let a = refuse-got (ltb (g .1) (length s)) (BytesAfter (g .1)) _ t end (g .3) in
       let e = got-same (tableWith h (f .0) (g .0)) t (g .1) end (a .1) in
       let m = many-got (readRow s h) (h .e) 10 (f .0) (f .1) (f .2) in
       let n = many-got (readLine s h) (h .m) (f .1) (g .0) (g .1) (g .2) in
@@ -359,7 +361,7 @@ unfolding reading
 readable-is-written s h t q = go (readHeader s) refl q
   where
     inner : (k : Header) (at : ℕ) → readHeader s ≡ got k at → (x : Read Table) → readBody s k ≡ x → whole k x ≡ readable h t → (s ≡ bytesOf t) × Fits t × (h ≡ countsOf t)
-    inner k at e (refused n p) f q = absurd (let z : _≡_ {A = ℕ} 0 1 = cc in let y : ⊥ = omega arith in y)
+    inner k at e (refused why) f q = absurd (let z : _≡_ {A = ℕ} 0 1 = cc in let y : ⊥ = omega arith in y)
     inner k at e (got u end) f q =
         let a = header-stands s k at e in
         let b = body-stands s k u end f in
@@ -373,7 +375,7 @@ readable-is-written s h t q = go (readHeader s) refl q
         )
 
     go : (x : Read Header) → readHeader s ≡ x → fromHeader s x ≡ readable h t → (s ≡ bytesOf t) × Fits t × (h ≡ countsOf t)
-    go (refused n p) e q = absurd (let z : _≡_ {A = ℕ} 0 1 = cc in let y : ⊥ = omega arith in y)
+    go (refused why) e q = absurd (let z : _≡_ {A = ℕ} 0 1 = cc in let y : ⊥ = omega arith in y)
     go (got k at) e q = inner k at e (readBody s k) refl q
 
 ------------------------------------------------------------------ bytes that begin right
@@ -429,11 +431,11 @@ module _ (s : List ℕ) (h : Header) (rows : List Row) (lines : List Line) (tail
       omega arith
 
   -- where a row, a line, or what follows is refused
-  pub stopped-in-rows : length rows < h .e → (n p : ℕ) → readRow s h rowsEnd ≡ refused n p → reading s ≡ refusal n p
+  pub stopped-in-rows : length rows < h .e → (why : Answer) → readRow s h rowsEnd ≡ refused why → reading s ≡ refusal why
   unfolding readBody
-  stopped-in-rows fewer n p q =
+  stopped-in-rows fewer why q =
       header-then s h 10 header-first
-      ∙ ap (λ (x : Read (List Row)). whole h (andThen x (λ rows next. andThen (readLines s h (h .m) next) (theRest s h rows)))) (many-stopped (readRow s h) (h .e) rows 10 rowsEnd n p rows-first fewer q)
+      ∙ ap (λ (x : Read (List Row)). whole h (andThen x (λ rows next. andThen (readLines s h (h .m) next) (theRest s h rows)))) (many-stopped (readRow s h) (h .e) rows 10 rowsEnd why rows-first fewer q)
 
   module _ (all-rows : length rows ≡ h .e) where
     past-rows : readBody s h ≡ andThen (readLines s h (h .m) rowsEnd) (theRest s h rows)
@@ -442,11 +444,11 @@ module _ (s : List ℕ) (h : Header) (rows : List Row) (lines : List Line) (tail
         ap (λ (x : Read (List Row)). andThen x (λ rows next. andThen (readLines s h (h .m) next) (theRest s h rows)))
         (ap (λ (k : ℕ). readRows s h k 10) (sym all-rows) ∙ many-whole (readRow s h) rows 10 rowsEnd rows-first)
 
-    pub stopped-in-lines : length lines < h .m → (n p : ℕ) → readLine s h linesEnd ≡ refused n p → reading s ≡ refusal n p
-    stopped-in-lines fewer n p q =
+    pub stopped-in-lines : length lines < h .m → (why : Answer) → readLine s h linesEnd ≡ refused why → reading s ≡ refusal why
+    stopped-in-lines fewer why q =
         header-then s h 10 header-first
         ∙ ap (whole h)
-        (past-rows ∙ ap (λ (x : Read (List Line)). andThen x (theRest s h rows)) (many-stopped (readLine s h) (h .m) lines rowsEnd linesEnd n p (lines-next all-rows) fewer q))
+        (past-rows ∙ ap (λ (x : Read (List Line)). andThen x (theRest s h rows)) (many-stopped (readLine s h) (h .m) lines rowsEnd linesEnd why (lines-next all-rows) fewer q))
 
     past-lines : length lines ≡ h .m → readBody s h ≡ theRest s h rows lines linesEnd
     past-lines all =
@@ -454,11 +456,11 @@ module _ (s : List ℕ) (h : Header) (rows : List Row) (lines : List Line) (tail
         ∙ ap (λ (x : Read (List Line)). andThen x (theRest s h rows))
         (ap (λ (k : ℕ). readLines s h k rowsEnd) (sym all) ∙ many-whole (readLine s h) lines rowsEnd linesEnd (lines-next all-rows))
 
-    pub stopped-behind : length lines ≡ h .m → linesEnd < length s → reading s ≡ refusal 6 linesEnd
-    stopped-behind all w = header-then s h 10 header-first ∙ ap (whole h) (past-lines all ∙ if-refused _ _ _ _ (lt-ltb linesEnd (length s) w))
+    pub stopped-behind : length lines ≡ h .m → linesEnd < length s → reading s ≡ refusal (BytesAfter linesEnd)
+    stopped-behind all w = header-then s h 10 header-first ∙ ap (whole h) (past-lines all ∙ if-refused _ _ _ (lt-ltb linesEnd (length s) w))
 
     pub read-whole : length lines ≡ h .m → length s ≤ linesEnd → reading s ≡ readable h (tableWith h rows lines)
-    read-whole all w = header-then s h 10 header-first ∙ ap (whole h) (past-lines all ∙ if-passed _ _ _ _ (le-ltb linesEnd (length s) w))
+    read-whole all w = header-then s h 10 header-first ∙ ap (whole h) (past-lines all ∙ if-passed _ _ _ (le-ltb linesEnd (length s) w))
 
 -- THE BYTES OF A TABLE THAT FITS ARE READ AS THAT TABLE
 pub written-is-readable : (t : Table) → Fits t → reading (bytesOf t) ≡ readable (countsOf t) t

@@ -28,6 +28,8 @@ use borrow.Author.Tests.{ltb-true, ltb-false, leb-false}
 use Rattle.el.specs.Test.{everyOf}
 use Rattle.el.specs.TestLaws.{and-make, everyOf-all}
 use Rattle.el.specs.Table.{Filler, topF, constantF, variableF, Entry, constant, restriction, variable, Row, Line, Table, rowAt, rowDeclared, fillerDeclared, entryDeclared, lineDeclared, declared}
+use Rattle.answer.specs.declared.Answer.{Answer}
+use Rattle.answer.specs.declared.Answer.the-variants.{EndsEarly, WrongMark, WrongVersion, OverBound, NotAllowed, BytesAfter}
 use Rattle.table.specs.declared.Kind.{Kind}
 use Rattle.table.specs.declared.Kind.the-variants.{Top, Constant, Restriction, Variable, Other}
 use Rattle.table.specs.declared.Verdict.the-variants.{Refused, Readable}
@@ -70,9 +72,9 @@ module _ (s : List ℕ) (h : Header) where
   pub row-read : (at : ℕ) (row : Row) (end : ℕ) → readRow s h at ≡ got row end → RowRead at row × (end ≡ at + 2)
   unfolding readRow
   row-read at row end q =
-      let a = refuse-got (missing s at) 1 (length s) _ row end q in
-      let b = refuse-got (leb (h .r) (byteAt s at)) 5 at _ row end (a .1) in
-      let d = refuse-got (missing s (at + 1)) 1 (length s) _ row end (b .1) in
+      let a = refuse-got (missing s at) (EndsEarly (length s)) _ row end q in
+      let b = refuse-got (leb (h .r) (byteAt s at)) (NotAllowed at) _ row end (a .1) in
+      let d = refuse-got (missing s (at + 1)) (EndsEarly (length s)) _ row end (b .1) in
       let f = then-got (orRefused (at + 1) (fillerOf (h .c) (h .v) (byteAt s (at + 1)))) (λ f next. got (record { role = byteAt s at; filler = f }) next) row end (d .1) in
       let g = or-got (at + 1) (fillerOf (h .c) (h .v) (byteAt s (at + 1))) (f .0) (f .1) (f .2) in
       let e = got-same (record { role = byteAt s at; filler = f .0 }) row (f .1) end (f .3) in (
@@ -110,7 +112,7 @@ module _ (s : List ℕ) (h : Header) where
   pub entry-read : (at : ℕ) (x : Entry) (end : ℕ) → readEntry s h at ≡ got x end → EntryRead at x × (end ≡ at + 1)
   unfolding readEntry
   entry-read at x end q =
-      let a = refuse-got (missing s at) 1 (length s) _ x end q in
+      let a = refuse-got (missing s at) (EndsEarly (length s)) _ x end q in
       let g = or-got at (entryOf (h .c) (h .e) (h .v) (byteAt s at)) x end (a .1) in
       (record { inside = leb-false (length s) at (a .0); entry = g .0 }, g .1)
 
@@ -141,8 +143,8 @@ module _ (s : List ℕ) (h : Header) where
   pub line-read : (at : ℕ) (l : Line) (end : ℕ) → readLine s h at ≡ got l end → LineRead at l × (end ≡ at + byteAt s at + 2)
   unfolding readLine
   line-read at l end q =
-      let a = refuse-got (missing s at) 1 (length s) _ l end q in
-      let b = refuse-got (ltb maxLeft (byteAt s at)) 4 at _ l end (a .1) in
+      let a = refuse-got (missing s at) (EndsEarly (length s)) _ l end q in
+      let b = refuse-got (ltb maxLeft (byteAt s at)) (OverBound at) _ l end (a .1) in
       let f = then-got (readEntries s h (byteAt s at) (at + 1)) (λ left next. andThen (readEntry s h next) (λ right end. got (record { left = left; right = right }) end)) l end (b .1) in
       let g = then-got (readEntry s h (f .1)) (λ right end. got (record { left = f .0; right = right }) end) l end (f .3) in
       let e = got-same (record { left = f .0; right = g .0 }) l (g .1) end (g .3) in
@@ -192,13 +194,13 @@ module _ (s : List ℕ) (h : Header) where
   pub header-read : (end : ℕ) → readHeader s ≡ got h end → HeaderRead
   unfolding readHeader
   header-read end q =
-      let a = refuse-got (ltb (length s) 10) 1 (length s) _ h end q in
-      let b = refuse-got (not (marked s)) 2 0 _ h end (a .1) in
-      let d = refuse-got (not (versionOne s)) 3 3 _ h end (b .1) in
-      let r = refuse-got (ltb maxRoles (headerOf s .r)) 4 6 _ h end (d .1) in
-      let v = refuse-got (ltb maxVariables (headerOf s .v)) 4 7 _ h end (r .1) in
-      let e = refuse-got (ltb maxAtoms (headerOf s .c + headerOf s .e)) 4 8 _ h end (v .1) in
-      let m = refuse-got (ltb maxLines (headerOf s .m)) 4 9 _ h end (e .1) in
+      let a = refuse-got (ltb (length s) 10) (EndsEarly (length s)) _ h end q in
+      let b = refuse-got (not (marked s)) WrongMark _ h end (a .1) in
+      let d = refuse-got (not (versionOne s)) WrongVersion _ h end (b .1) in
+      let r = refuse-got (ltb maxRoles (headerOf s .r)) (OverBound 6) _ h end (d .1) in
+      let v = refuse-got (ltb maxVariables (headerOf s .v)) (OverBound 7) _ h end (r .1) in
+      let e = refuse-got (ltb maxAtoms (headerOf s .c + headerOf s .e)) (OverBound 8) _ h end (v .1) in
+      let m = refuse-got (ltb maxLines (headerOf s .m)) (OverBound 9) _ h end (e .1) in
       let g = got-same (headerOf s) h 10 end (m .1) in
       record {
         same = sym (g .0);
@@ -210,7 +212,7 @@ module _ (s : List ℕ) (h : Header) where
       }
 
   abbrev theRest : List Row → List Line → ℕ → Read Table
-  theRest rows lines end = refuseIf (ltb end (length s)) 6 end (got (tableWith h rows lines) end)
+  theRest rows lines end = refuseIf (ltb end (length s)) (BytesAfter end) (got (tableWith h rows lines) end)
 
   pub record BodyRead (t : Table) : Type 0 where
     pub rows : List Row
@@ -225,7 +227,7 @@ module _ (s : List ℕ) (h : Header) where
   body-read t end q =
       let f = then-got (readRows s h (h .e) 10) (λ rows next. andThen (readLines s h (h .m) next) (λ lines z. theRest rows lines z)) t end q in
       let g = then-got (readLines s h (h .m) (f .1)) (λ lines z. theRest (f .0) lines z) t end (f .3) in
-      let a = refuse-got (ltb (g .1) (length s)) 6 (g .1) _ t end (g .3) in
+      let a = refuse-got (ltb (g .1) (length s)) (BytesAfter (g .1)) _ t end (g .3) in
       let e = got-same (tableWith h (f .0) (g .0)) t (g .1) end (a .1) in
       let rows = rows-read (h .e) 10 (f .0) (f .1) (f .2) in
       let lines = lines-read (h .m) (f .1) (g .0) (g .1) (g .2) in
@@ -329,11 +331,11 @@ unfolding reading tableOf
 layout s ok = go (readHeader s) refl ok
   where
     inner : (h : Header) (at : ℕ) → readHeader s ≡ got h at → (x : Read Table) → readBody s h ≡ x → T (isReadable (whole h x)) → Layout s (theTable (whole h x))
-    inner h at e (refused n p) q ok = absurd ok
+    inner h at e (refused why) q ok = absurd ok
     inner h at e (got t end) q ok = read-layout s h at t end e q
 
     go : (x : Read Header) → readHeader s ≡ x → T (isReadable (fromHeader s x)) → Layout s (theTable (fromHeader s x))
-    go (refused n p) e ok = absurd ok
+    go (refused why) e ok = absurd ok
     go (got h at) e ok = inner h at e (readBody s h) refl ok
 
 pub readable-header : (s : List ℕ) (h : Header) (t : Table) → reading s ≡ readable h t → (h ≡ headerOf s) × (t ≡ tableOf s)
@@ -341,22 +343,22 @@ unfolding reading tableOf
 readable-header s h t q = (go (readHeader s) refl q, sym (ap theTable q))
   where
     inner : (k : Header) (x : Read Table) → whole k x ≡ readable h t → k ≡ h
-    inner k (refused n p) q = let z : _≡_ {A = ℕ} 0 1 = cc in absurd (let y : ⊥ = omega arith in y)
+    inner k (refused why) q = let z : _≡_ {A = ℕ} 0 1 = cc in absurd (let y : ⊥ = omega arith in y)
     inner k (got u end) q = cc
 
     go : (x : Read Header) → readHeader s ≡ x → fromHeader s x ≡ readable h t → h ≡ headerOf s
-    go (refused n p) e q = let z : _≡_ {A = ℕ} 0 1 = cc in absurd (let y : ⊥ = omega arith in y)
+    go (refused why) e q = let z : _≡_ {A = ℕ} 0 1 = cc in absurd (let y : ⊥ = omega arith in y)
     go (got k at) e q = sym (inner k (readBody s k) q) ∙ header-read s k at e .same
 
-pub refused-readable : (n p : ℕ) → Refused n p ≡ Readable → ⊥
-refused-readable n p q = let z : _≡_ {A = ℕ} 0 1 = cc in omega arith
+pub refused-readable : (why : Answer) → Refused why ≡ Readable → ⊥
+refused-readable why q = let z : _≡_ {A = ℕ} 0 1 = cc in omega arith
 
 pub readable-is : (s : List ℕ) → verdictOf (reading s) ≡ Readable → T (isReadable (reading s))
 unfolding verdictOf
 readable-is s q = go (reading s) q
   where
     go : (x : Reading) → verdictOf x ≡ Readable → T (isReadable x)
-    go (refusal n p) q = absurd (refused-readable n p q)
+    go (refusal why) q = absurd (refused-readable why q)
     go (readable h t) q = tt
 
 ------------------------------------------------------------------ where lines lie

@@ -18,6 +18,7 @@ use Rattle.el.specs.Test.{everyOf}
 use Rattle.el.specs.TestLaws.{and-left, and-right}
 use Rattle.el.specs.Table.{topF, restriction, Entry, Row, Line, Table, lineDeclared}
 use Rattle.bounds.specs.Bounds.{maxLeft}
+use Rattle.answer.specs.declared.Answer.{Answer}
 use Rattle.table.specs.Reading.{byteAt, Header, headerOf, marked, versionOne, tableWith, Reading, refusal, readable, reading, tableOf, isReadable}
 use Rattle.table.specs.Bytes.{fillerCode, entryCode, writtenHeader, writtenRow, writtenEntry, writtenLine, bytesWith, countsOf, bytesOf, lineRight, Right, Fits}
 use Rattle.table.specs.BytesLaws.{readable-is-written, written-is-readable}
@@ -101,7 +102,7 @@ pub longest : (s : List ℕ) → T (isReadable (reading s)) → length s ≤ 698
 longest s ok = go (reading s) refl ok
   where
     go : (r : Reading) → reading s ≡ r → T (isReadable r) → length s ≤ 698
-    go (refusal n p) e ok = absurd ok
+    go (refusal why) e ok = absurd ok
     go (readable h t) e ok = let w = readable-is-written s h t e in subst (λ (l : List ℕ). length l ≤ 698) (sym (w .0)) (table-length t (w .1))
 
 -- 24 rows and 64 lines of 8 left entries
@@ -152,7 +153,7 @@ module _ (s : List ℕ) (long : 699 ≤ length s) where
       ∙ ap (λ (k : ℕ). take k (good ++ (b ∷ tail))) (let e : 699 ≡ length good + suc (698 - length good) = omega arith in e)
       ∙ take-append-add good (b ∷ tail) (suc (698 - length good))
 
-  kept-refusal : {n p : ℕ} → RefusedAt s n p → RefusedAt (take 699 s) n p
+  kept-refusal : {why : Answer} → RefusedAt s why → RefusedAt (take 699 s) why
   kept-refusal (header-cut w) = absurd (let z : ⊥ = omega arith in z)
   kept-refusal (wrong-mark l m) = wrong-mark (let e = kept-length in omega arith) (λ z. m (subst T kept-mark z))
   kept-refusal (wrong-version l m v) = wrong-version (let e = kept-length in omega arith) (subst T (sym kept-mark) m) (λ z. v (subst T kept-version z))
@@ -168,7 +169,7 @@ pub first-bytes : (s : List ℕ) → reading (take 699 s) ≡ reading s
 first-bytes s = go (decLe (length s) 699)
   where
     over : 699 < length s → (r : Reading) → reading s ≡ r → reading (take 699 s) ≡ r
-    over l (refusal n p) e = means-refusal (take 699 s) n p (kept-refusal s (omega arith) (refused-means s n p e))
+    over l (refusal why) e = means-refusal (take 699 s) why (kept-refusal s (omega arith) (refused-means s why e))
     over l (readable h t) e = let w = longest s (subst (λ (r : Reading). T (isReadable r)) (sym e) tt) in absurd (let y : ⊥ = omega arith in y)
 
     go : Dec (length s ≤ 699) → reading (take 699 s) ≡ reading s

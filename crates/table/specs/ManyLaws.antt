@@ -21,23 +21,25 @@ use lib.ListN.{length, drop, getD, length-append}
 use lib.Seq.{drop-drop, drop-append-seam}
 use Rattle.el.specs.Test.{everyOf}
 use Rattle.el.specs.TestLaws.{and-make, and-left, and-right}
+use Rattle.answer.specs.declared.Answer.{Answer}
+use Rattle.answer.specs.declared.Answer.the-variants.{NotAllowed}
 use Rattle.table.specs.Reading.{Read, refused, got, refuseIf, andThen, orRefused, readMany}
 
-pub refused-got : {A : Type 0} (n p : ℕ) (a : A) (end : ℕ) → refused n p ≡ got a end → ⊥
-refused-got n p a end q = let z : _≡_ {A = ℕ} 0 1 = cc in omega arith
+pub refused-got : {A : Type 0} (why : Answer) (a : A) (end : ℕ) → refused why ≡ got a end → ⊥
+refused-got why a end q = let z : _≡_ {A = ℕ} 0 1 = cc in omega arith
 
-pub refuse-got : {A : Type 0} (t : Bool) (n p : ℕ) (x : Read A) (a : A) (end : ℕ) → refuseIf t n p x ≡ got a end → (t ≡ false) × (x ≡ got a end)
-refuse-got true n p x a end q = absurd (refused-got n p a end q)
-refuse-got false n p x a end q = (refl, q)
+pub refuse-got : {A : Type 0} (t : Bool) (why : Answer) (x : Read A) (a : A) (end : ℕ) → refuseIf t why x ≡ got a end → (t ≡ false) × (x ≡ got a end)
+refuse-got true why x a end q = absurd (refused-got why a end q)
+refuse-got false why x a end q = (refl, q)
 
 pub then-got : {A B : Type 0} (x : Read A) (f : A → ℕ → Read B) (b : B) (end : ℕ)
     → andThen x f ≡ got b end
     → (a : A) × (at : ℕ) × (x ≡ got a at) × (f a at ≡ got b end)
-then-got (refused n p) f b end q = absurd (refused-got n p b end q)
+then-got (refused why) f b end q = absurd (refused-got why b end q)
 then-got (got a at) f b end q = (a, at, refl, q)
 
 pub or-got : {A : Type 0} (at : ℕ) (o : Option A) (a : A) (end : ℕ) → orRefused at o ≡ got a end → (o ≡ some a) × (end ≡ at + 1)
-or-got at none a end q = absurd (refused-got 5 at a end q)
+or-got at none a end q = absurd (refused-got (NotAllowed at) a end q)
 or-got at (some b) a end q = (cc, cc)
 
 pub got-same : {A : Type 0} (a b : A) (m n : ℕ) → got a m ≡ got b n → (a ≡ b) × (m ≡ n)
@@ -73,36 +75,36 @@ module _ {A : Type 0} (one : ℕ → Read A) where
       ap (λ (x : Read A). andThen x (rest (length l))) (m .1)
       ∙ ap (λ (x : Read (List A)). andThen x (λ l end. got (a ∷ l) end)) (many-whole l (m .0) end (m .2))
 
-  pub many-stopped : (k : ℕ) (l : List A) (at mid n p : ℕ) → Many one l at mid → length l < k → one mid ≡ refused n p → readMany one k at ≡ refused n p
+  pub many-stopped : (k : ℕ) (l : List A) (at mid : ℕ) (why : Answer) → Many one l at mid → length l < k → one mid ≡ refused why → readMany one k at ≡ refused why
   unfolding readMany
-  many-stopped zero l at mid n p m w q = absurd (let z : ⊥ = omega arith in z)
-  many-stopped (suc k) [] at mid n p m w q = ap (λ (x : Read A). andThen x (rest k)) (ap one m ∙ q)
-  many-stopped (suc k) (a ∷ l) at mid n p m w q =
+  many-stopped zero l at mid why m w q = absurd (let z : ⊥ = omega arith in z)
+  many-stopped (suc k) [] at mid why m w q = ap (λ (x : Read A). andThen x (rest k)) (ap one m ∙ q)
+  many-stopped (suc k) (a ∷ l) at mid why m w q =
       ap (λ (x : Read A). andThen x (rest k)) (m .1)
-      ∙ ap (λ (x : Read (List A)). andThen x (λ l end. got (a ∷ l) end)) (many-stopped k l (m .0) mid n p (m .2) (let v : suc (length l) < suc k = w in omega arith) q)
+      ∙ ap (λ (x : Read (List A)). andThen x (λ l end. got (a ∷ l) end)) (many-stopped k l (m .0) mid why (m .2) (let v : suc (length l) < suc k = w in omega arith) q)
 
-  pub record Stopped (k at n p : ℕ) : Type 0 where
+  pub record Stopped (k at : ℕ) (why : Answer) : Type 0 where
     pub before : List A
     pub place : ℕ
     pub were-read : Many one before at place
     pub fewer : length before < k
-    pub stops : one place ≡ refused n p
+    pub stops : one place ≡ refused why
 
-  pub many-refused : (k at n p : ℕ) → readMany one k at ≡ refused n p → Stopped k at n p
+  pub many-refused : (k at : ℕ) (why : Answer) → readMany one k at ≡ refused why → Stopped k at why
   unfolding readMany
-  many-refused zero at n p q = absurd (refused-got n p [] at (sym q))
-  many-refused (suc k) at n p q = go (one at) refl q (λ (mid : ℕ). many-refused k mid n p)
+  many-refused zero at why q = absurd (refused-got why [] at (sym q))
+  many-refused (suc k) at why q = go (one at) refl q (λ (mid : ℕ). many-refused k mid why)
     where
-      later : (a : A) (mid : ℕ) → one at ≡ got a mid → Stopped k mid n p → Stopped (suc k) at n p
+      later : (a : A) (mid : ℕ) → one at ≡ got a mid → Stopped k mid why → Stopped (suc k) at why
       later a mid e r = record { before = a ∷ r .before; place = r .place; were-read = (mid, e, r .were-read); fewer = (let v = r .fewer in omega arith); stops = r .stops }
 
-      inner : (a : A) (mid : ℕ) → one at ≡ got a mid → (x : Read (List A)) → readMany one k mid ≡ x → andThen x (λ l end. got (a ∷ l) end) ≡ refused n p
-          → (readMany one k mid ≡ refused n p → Stopped k mid n p) → Stopped (suc k) at n p
-      inner a mid e (refused m r) f g ih = later a mid e (ih (f ∙ (let a : m ≡ n = cc in let b : r ≡ p = cc in ap₂ refused a b)))
-      inner a mid e (got l end) f g ih = absurd (refused-got n p (a ∷ l) end (sym g))
+      inner : (a : A) (mid : ℕ) → one at ≡ got a mid → (x : Read (List A)) → readMany one k mid ≡ x → andThen x (λ l end. got (a ∷ l) end) ≡ refused why
+          → (readMany one k mid ≡ refused why → Stopped k mid why) → Stopped (suc k) at why
+      inner a mid e (refused was) f g ih = later a mid e (ih (f ∙ (let a : was ≡ why = cc in ap refused a)))
+      inner a mid e (got l end) f g ih = absurd (refused-got why (a ∷ l) end (sym g))
 
-      go : (x : Read A) → one at ≡ x → andThen x (rest k) ≡ refused n p → ((mid : ℕ) → readMany one k mid ≡ refused n p → Stopped k mid n p) → Stopped (suc k) at n p
-      go (refused m r) e f ih = record { before = []; place = at; were-read = refl; fewer = omega arith; stops = e ∙ (let a : m ≡ n = cc in let b : r ≡ p = cc in ap₂ refused a b) }
+      go : (x : Read A) → one at ≡ x → andThen x (rest k) ≡ refused why → ((mid : ℕ) → readMany one k mid ≡ refused why → Stopped k mid why) → Stopped (suc k) at why
+      go (refused was) e f ih = record { before = []; place = at; were-read = refl; fewer = omega arith; stops = e ∙ (let a : was ≡ why = cc in ap refused a) }
       go (got a mid) e f ih = inner a mid e (readMany one k mid) refl f (ih mid)
 
 ------------------------------------------------------------------ where each stands

@@ -1,7 +1,7 @@
--- What a list of bytes says: a refusal with its number and place, or a table.
+-- What a list of bytes says: a refusal, or a table.
 --
---   Read A               == a refusal (number, place), or something read and the place after it
---   refuseIf t n p x     == the refusal n at p where the test t passes, else x
+--   Read A               == a refusal, or something read and the place after it
+--   refuseIf t why x     == the refusal `why` where the test t passes, else x
 --   byteAt s i           == byte i
 --   missing s i          == there is no byte i
 --   Header               == the five counts
@@ -18,25 +18,27 @@ use Prim.Native.Nat.{ℕ, zero, suc, _+_}
 use lib.Dec.{eqb, leb, ltb}
 use lib.ListN.{length, getD}
 use Rattle.el.specs.Table.{Entry, Row, Line, Table}
+use Rattle.answer.specs.declared.Answer.{Answer}
+use Rattle.answer.specs.declared.Answer.the-variants.{EndsEarly, WrongMark, WrongVersion, OverBound, NotAllowed, BytesAfter}
 use Rattle.bounds.specs.Bounds.{maxAtoms, maxRoles, maxVariables, maxLines, maxLeft}
 use Rattle.table.specs.Code.{fillerOf, entryOf}
 
 pub data Read (A : Type 0) : Type 0 where
-  refused : ℕ → ℕ → Read A
+  refused : Answer → Read A
   got : A → ℕ → Read A
 
-abbrev pub refuseIf : {A : Type 0} → Bool → ℕ → ℕ → Read A → Read A
-refuseIf true n p x = refused n p
-refuseIf false n p x = x
+abbrev pub refuseIf : {A : Type 0} → Bool → Answer → Read A → Read A
+refuseIf true why x = refused why
+refuseIf false why x = x
 
 -- what is read next goes on from the place after what was read
 abbrev pub andThen : {A B : Type 0} → Read A → (A → ℕ → Read B) → Read B
-andThen (refused n p) f = refused n p
+andThen (refused why) f = refused why
 andThen (got a at) f = f a at
 
--- where the code is neither allowed nor declared there: number 5 at its byte
+-- "code or role not declared or not allowed there", "its byte"
 abbrev pub orRefused : {A : Type 0} → ℕ → Option A → Read A
-orRefused at none = refused 5 at
+orRefused at none = refused (NotAllowed at)
 orRefused at (some a) = got a (at + 1)
 
 -- many of a kind, one after the other
@@ -71,22 +73,22 @@ versionOne s = eqb (byteAt s 3) 1 && eqb (byteAt s 4) 0
 -- "fewer than 10 bytes gives 1 before anything else. Then mark, version, counts in byte order (c + e is judged at byte 8)"
 unfoldable pub readHeader : List ℕ → Read Header
 readHeader s =
-    refuseIf (ltb (length s) 10) 1 (length s)
-    (refuseIf (not (marked s)) 2 0
-    (refuseIf (not (versionOne s)) 3 3
-    (refuseIf (ltb maxRoles (byteAt s 6)) 4 6
-    (refuseIf (ltb maxVariables (byteAt s 7)) 4 7
-    (refuseIf (ltb maxAtoms (byteAt s 5 + byteAt s 8)) 4 8
-    (refuseIf (ltb maxLines (byteAt s 9)) 4 9
+    refuseIf (ltb (length s) 10) (EndsEarly (length s))
+    (refuseIf (not (marked s)) WrongMark
+    (refuseIf (not (versionOne s)) WrongVersion
+    (refuseIf (ltb maxRoles (byteAt s 6)) (OverBound 6)
+    (refuseIf (ltb maxVariables (byteAt s 7)) (OverBound 7)
+    (refuseIf (ltb maxAtoms (byteAt s 5 + byteAt s 8)) (OverBound 8)
+    (refuseIf (ltb maxLines (byteAt s 9)) (OverBound 9)
     (got (headerOf s) 10)))))))
 
 module _ (s : List ℕ) (h : Header) where
   -- "two bytes: a role, less than r, and a filler code"; "a missing byte gives 1"
   unfoldable pub readRow : ℕ → Read Row
   readRow at =
-      refuseIf (missing s at) 1 (length s)
-      (refuseIf (leb (h .r) (byteAt s at)) 5 at
-      (refuseIf (missing s (at + 1)) 1 (length s)
+      refuseIf (missing s at) (EndsEarly (length s))
+      (refuseIf (leb (h .r) (byteAt s at)) (NotAllowed at)
+      (refuseIf (missing s (at + 1)) (EndsEarly (length s))
       (andThen (orRefused (at + 1) (fillerOf (h .c) (h .v) (byteAt s (at + 1)))) (λ f next.
       got (record { role = byteAt s at; filler = f }) next))))
 
@@ -94,7 +96,7 @@ module _ (s : List ℕ) (h : Header) where
   readRows = readMany readRow
 
   unfoldable pub readEntry : ℕ → Read Entry
-  readEntry at = refuseIf (missing s at) 1 (length s) (orRefused at (entryOf (h .c) (h .e) (h .v) (byteAt s at)))
+  readEntry at = refuseIf (missing s at) (EndsEarly (length s)) (orRefused at (entryOf (h .c) (h .e) (h .v) (byteAt s at)))
 
   abbrev pub readEntries : ℕ → ℕ → Read (List Entry)
   readEntries = readMany readEntry
@@ -102,8 +104,8 @@ module _ (s : List ℕ) (h : Header) where
   -- "a left count p, p atom codes, and one right atom code"; "an over-large p gives 4 before its entries are read"
   unfoldable pub readLine : ℕ → Read Line
   readLine at =
-      refuseIf (missing s at) 1 (length s)
-      (refuseIf (ltb maxLeft (byteAt s at)) 4 at
+      refuseIf (missing s at) (EndsEarly (length s))
+      (refuseIf (ltb maxLeft (byteAt s at)) (OverBound at)
       (andThen (readEntries (byteAt s at) (at + 1)) (λ left next.
       andThen (readEntry next) (λ right end.
       got (record { left = left; right = right }) end))))
@@ -112,7 +114,7 @@ module _ (s : List ℕ) (h : Header) where
   readLines = readMany readLine
 
 pub data Reading : Type 0 where
-  refusal : ℕ → ℕ → Reading
+  refusal : Answer → Reading
   readable : Header → Table → Reading
 
 -- the table of a header, with these rows and lines
@@ -124,15 +126,15 @@ unfoldable pub readBody : List ℕ → Header → Read Table
 readBody s h =
     andThen (readRows s h (h .e) 10) (λ rows next.
     andThen (readLines s h (h .m) next) (λ lines end.
-    refuseIf (ltb end (length s)) 6 end
+    refuseIf (ltb end (length s)) (BytesAfter end)
     (got (tableWith h rows lines) end)))
 
 abbrev pub whole : Header → Read Table → Reading
-whole h (refused n p) = refusal n p
+whole h (refused why) = refusal why
 whole h (got t end) = readable h t
 
 abbrev pub fromHeader : List ℕ → Read Header → Reading
-fromHeader s (refused n p) = refusal n p
+fromHeader s (refused why) = refusal why
 fromHeader s (got h at) = whole h (readBody s h)
 
 unfoldable pub reading : List ℕ → Reading
@@ -140,12 +142,12 @@ reading s = fromHeader s (readHeader s)
 
 -- the table of a readable list of bytes; of an unreadable one an empty table
 abbrev pub theTable : Reading → Table
-theTable (refusal n p) = record { constants = 0; roles = 0; variables = 0; rows = []; lines = [] }
+theTable (refusal why) = record { constants = 0; roles = 0; variables = 0; rows = []; lines = [] }
 theTable (readable h t) = t
 
 unfoldable pub tableOf : List ℕ → Table
 tableOf s = theTable (reading s)
 
 abbrev pub isReadable : Reading → Bool
-isReadable (refusal n p) = false
+isReadable (refusal why) = false
 isReadable (readable h t) = true

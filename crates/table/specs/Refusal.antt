@@ -1,11 +1,11 @@
--- What is wrong with the bytes under each number of the reader's refusals, in the order of judging.
+-- What is wrong with the bytes under each of the reader's refusals, in the order of judging.
 --
 --   Slot              == what stands next: a role, a filler, a left count, an entry, or nothing
 --   Awaited x         == something stands next
 --   Begins h good x   == the bytes `good` begin a table with the counts h and are right so far, and x stands next
 --   Refuses h x b     == the byte b is neither declared nor allowed where x stands next
 --   Over h at         == of the counts h the first that is over its bound is the one of the byte `at`
---   RefusedAt s n p   == the bytes s are refused with the number n and the place p
+--   RefusedAt s why   == the bytes s are refused, and `why` says why and where
 use mathlib.Core.Path.{_≡_}
 use mathlib.Core.List.{List, [], _∷_, _++_, flatMap}
 use mathlib.Core.Option.{none}
@@ -14,6 +14,8 @@ use lib.Dec.{T}
 use lib.ListN.{length}
 use Rattle.el.specs.Test.{everyOf}
 use Rattle.el.specs.Table.{Entry, Row, Line, entryDeclared}
+use Rattle.answer.specs.declared.Answer.{Answer}
+use Rattle.answer.specs.declared.Answer.the-variants.{EndsEarly, WrongMark, WrongVersion, OverBound, NotAllowed, BytesAfter}
 use Rattle.table.specs.Code.{fillerOf, entryOf}
 use Rattle.bounds.specs.Bounds.{maxAtoms, maxRoles, maxVariables, maxLines, maxLeft}
 use Rattle.table.specs.Reading.{Header, headerOf, marked, versionOne, tableWith}
@@ -57,20 +59,20 @@ pub data Over (h : Header) : ℕ → Type 0 where
   over-atoms : h .r ≤ maxRoles → h .v ≤ maxVariables → maxAtoms < h .c + h .e → Over h 8
   over-lines : h .r ≤ maxRoles → h .v ≤ maxVariables → h .c + h .e ≤ maxAtoms → maxLines < h .m → Over h 9
 
-pub data RefusedAt (s : List ℕ) : ℕ → ℕ → Type 0 where
-  -- 1 "input ends early", "input length": "fewer than 10 bytes gives 1 before anything else"
-  header-cut : length s < 10 → RefusedAt s 1 (length s)
-  -- 2 "wrong mark", 0
-  wrong-mark : 10 ≤ length s → (T (marked s) → ⊥) → RefusedAt s 2 0
-  -- 3 "version is not 1", 3
-  wrong-version : 10 ≤ length s → T (marked s) → (T (versionOne s) → ⊥) → RefusedAt s 3 3
-  -- 4 "a count is over its bound", "its byte"
-  over-bound : {at : ℕ} → 10 ≤ length s → T (marked s) → T (versionOne s) → Over (headerOf s) at → RefusedAt s 4 at
-  -- 4 "an over-large p gives 4 before its entries are read"
-  over-left : (h : Header) (good : List ℕ) (p : ℕ) (tail : List ℕ) → Begins h good aCount → s ≡ good ++ (p ∷ tail) → maxLeft < p → RefusedAt s 4 (length good)
-  -- 1 "a missing byte gives 1"
-  ends-early : (h : Header) (x : Slot) → Awaited x → Begins h s x → RefusedAt s 1 (length s)
-  -- 5 "code or role not declared or not allowed there", "its byte"
-  not-allowed : (h : Header) (x : Slot) (good : List ℕ) (b : ℕ) (tail : List ℕ) → Begins h good x → s ≡ good ++ (b ∷ tail) → Refuses h x b → RefusedAt s 5 (length good)
-  -- 6 "bytes after the last line", "first of them"
-  bytes-after : (h : Header) (good : List ℕ) (b : ℕ) (tail : List ℕ) → Begins h good nothing → s ≡ good ++ (b ∷ tail) → RefusedAt s 6 (length good)
+pub data RefusedAt (s : List ℕ) : Answer → Type 0 where
+  -- "input ends early", "input length": "fewer than 10 bytes gives 1 before anything else"
+  header-cut : length s < 10 → RefusedAt s (EndsEarly (length s))
+  -- "wrong mark", 0
+  wrong-mark : 10 ≤ length s → (T (marked s) → ⊥) → RefusedAt s WrongMark
+  -- "version is not 1", 3
+  wrong-version : 10 ≤ length s → T (marked s) → (T (versionOne s) → ⊥) → RefusedAt s WrongVersion
+  -- "a count is over its bound", "its byte"
+  over-bound : {at : ℕ} → 10 ≤ length s → T (marked s) → T (versionOne s) → Over (headerOf s) at → RefusedAt s (OverBound at)
+  -- "an over-large p gives 4 before its entries are read"
+  over-left : (h : Header) (good : List ℕ) (p : ℕ) (tail : List ℕ) → Begins h good aCount → s ≡ good ++ (p ∷ tail) → maxLeft < p → RefusedAt s (OverBound (length good))
+  -- "a missing byte gives 1"
+  ends-early : (h : Header) (x : Slot) → Awaited x → Begins h s x → RefusedAt s (EndsEarly (length s))
+  -- "code or role not declared or not allowed there", "its byte"
+  not-allowed : (h : Header) (x : Slot) (good : List ℕ) (b : ℕ) (tail : List ℕ) → Begins h good x → s ≡ good ++ (b ∷ tail) → Refuses h x b → RefusedAt s (NotAllowed (length good))
+  -- "bytes after the last line", "first of them"
+  bytes-after : (h : Header) (good : List ℕ) (b : ℕ) (tail : List ℕ) → Begins h good nothing → s ≡ good ++ (b ∷ tail) → RefusedAt s (BytesAfter (length good))

@@ -2,7 +2,7 @@
 --
 --   isSome o    == something was read
 --   stepOf x    == a step of the reader: the refusal, or the place after what was read
---   verdictOf r == the verdict on a whole table: the refusal with its number and place, or readable
+--   verdictOf r == the verdict on a whole table: the refusal, or readable
 use mathlib.Core.Bool.{Bool, true, false}
 use mathlib.Core.Option.{Option, none, some}
 use Rattle.table.specs.declared.Step.{Step}
@@ -16,9 +16,9 @@ isSome none = false
 isSome (some a) = true
 
 unfoldable pub stepOf : {A : Type 0} → Read A → Step
-stepOf (refused n p) = Stop n p
+stepOf (refused why) = Stop why
 stepOf (got a at) = Next at
 
 unfoldable pub verdictOf : Reading → Verdict
-verdictOf (refusal n p) = Refused n p
+verdictOf (refusal why) = Refused why
 verdictOf (readable h t) = Readable

@@ -8,6 +8,7 @@ ghost use Rattle.table.specs.Reading.{marked, versionOne, headerOf, read
 ghost use Rattle.table.specs.Step.{isSome, stepOf, verdictOf};
 ghost use Rattle.el.specs.Table.{rowAt};
 ghost use Rattle.table.specs.Layout.{lineStart, IsRowFiller};
+use answer::Answer;
 
 // The bytes that hold the five counts, and the length of the header.
 pub const CONSTANTS: usize = 5;
@@ -36,19 +37,6 @@ pub const MAX_LINES: u8 = 64;
 
 pub const MAX_LEFT: usize = 8;
 
-// The numbers of the refusals.
-pub const ENDS_EARLY: u32 = 1;
-
-pub const WRONG_MARK: u32 = 2;
-
-pub const WRONG_VERSION: u32 = 3;
-
-pub const OVER_BOUND: u32 = 4;
-
-pub const NOT_ALLOWED: u32 = 5;
-
-pub const BYTES_AFTER: u32 = 6;
-
 // What a code byte stands for, by its range alone.
 pub enum Kind {
     Top,
@@ -58,15 +46,15 @@ pub enum Kind {
     Other,
 }
 
-// A step of the reader: the place after what was read, or the number and place of a refusal.
+// A step of the reader: the place after what was read, or a refusal.
 pub enum Step {
     Next(usize),
-    Stop(u32, usize),
+    Stop(Answer),
 }
 
-// The verdict on a whole table: the number and place of a refusal, or readable.
+// The verdict on a whole table: a refusal, or readable.
 pub enum Verdict {
-    Refused(u32, usize),
+    Refused(Answer),
     Readable,
 }
 
@@ -134,27 +122,27 @@ fn read_header(table: &[u8]) -> Step
     ensures { λ r. ⌜ r ≡ stepOf (readHeader (now (table .entry))) ⌝ }
 {
     if table.len() < HEADER {
-        return Step::Stop(ENDS_EARLY, table.len());
+        return Step::Stop(Answer::EndsEarly(table.len()));
     }
     let mark = has_mark(table);
     let version = is_version_one(table);
     if !mark {
-        return Step::Stop(WRONG_MARK, 0);
+        return Step::Stop(Answer::WrongMark);
     }
     if !version {
-        return Step::Stop(WRONG_VERSION, 3);
+        return Step::Stop(Answer::WrongVersion);
     }
     if MAX_ROLES < table[ROLES] {
-        return Step::Stop(OVER_BOUND, ROLES);
+        return Step::Stop(Answer::OverBound(ROLES));
     }
     if MAX_VARIABLES < table[VARIABLES] {
-        return Step::Stop(OVER_BOUND, VARIABLES);
+        return Step::Stop(Answer::OverBound(VARIABLES));
     }
     if MAX_ATOMS < wide(table[CONSTANTS]) + wide(table[RESTRICTIONS]) {
-        return Step::Stop(OVER_BOUND, RESTRICTIONS);
+        return Step::Stop(Answer::OverBound(RESTRICTIONS));
     }
     if MAX_LINES < table[LINES] {
-        return Step::Stop(OVER_BOUND, LINES);
+        return Step::Stop(Answer::OverBound(LINES));
     }
     Step::Next(HEADER)
 }
@@ -165,16 +153,16 @@ fn read_row(table: &[u8], at: usize) -> Step
     ensures { λ r. ⌜ r ≡ stepOf (readRow (now (table .entry)) (headerOf (now (table .entry))) at) ⌝ }
 {
     if table.len() <= at {
-        return Step::Stop(ENDS_EARLY, table.len());
+        return Step::Stop(Answer::EndsEarly(table.len()));
     }
     if table[ROLES] <= table[at] {
-        return Step::Stop(NOT_ALLOWED, at);
+        return Step::Stop(Answer::NotAllowed(at));
     }
     if table.len() <= at + 1 {
-        return Step::Stop(ENDS_EARLY, table.len());
+        return Step::Stop(Answer::EndsEarly(table.len()));
     }
     if !filler_ok(table[at + 1], table[CONSTANTS], table[VARIABLES]) {
-        return Step::Stop(NOT_ALLOWED, at + 1);
+        return Step::Stop(Answer::NotAllowed(at + 1));
     }
     Step::Next(at + 2)
 }
@@ -191,8 +179,8 @@ fn read_rows(table: &[u8], count: usize, from: usize) -> Step
             Step::Next(next) => {
                 at = next;
             }
-            Step::Stop(number, place) => {
-                return Step::Stop(number, place);
+            Step::Stop(why) => {
+                return Step::Stop(why);
             }
         }
         k += 1;
@@ -206,7 +194,7 @@ fn read_entry(table: &[u8], at: usize) -> Step
     ensures { λ r. ⌜ r ≡ stepOf (readEntry (now (table .entry)) (headerOf (now (table .entry))) at) ⌝ }
 {
     if table.len() <= at {
-        return Step::Stop(ENDS_EARLY, table.len());
+        return Step::Stop(Answer::EndsEarly(table.len()));
     }
     if !entry_ok(
         table[at],
@@ -214,7 +202,7 @@ fn read_entry(table: &[u8], at: usize) -> Step
         table[RESTRICTIONS],
         table[VARIABLES],
     ) {
-        return Step::Stop(NOT_ALLOWED, at);
+        return Step::Stop(Answer::NotAllowed(at));
     }
     Step::Next(at + 1)
 }
@@ -231,8 +219,8 @@ fn read_entries(table: &[u8], count: usize, from: usize) -> Step
             Step::Next(next) => {
                 at = next;
             }
-            Step::Stop(number, place) => {
-                return Step::Stop(number, place);
+            Step::Stop(why) => {
+                return Step::Stop(why);
             }
         }
         i += 1;
@@ -246,15 +234,15 @@ fn read_line(table: &[u8], at: usize) -> Step
     ensures { λ r. ⌜ r ≡ stepOf (readLine (now (table .entry)) (headerOf (now (table .entry))) at) ⌝ }
 {
     if table.len() <= at {
-        return Step::Stop(ENDS_EARLY, table.len());
+        return Step::Stop(Answer::EndsEarly(table.len()));
     }
     let p = wide(table[at]);
     if MAX_LEFT < p {
-        return Step::Stop(OVER_BOUND, at);
+        return Step::Stop(Answer::OverBound(at));
     }
     match read_entries(table, p, at + 1) {
         Step::Next(next) => read_entry(table, next),
-        Step::Stop(number, place) => Step::Stop(number, place),
+        Step::Stop(why) => Step::Stop(why),
     }
 }
 
@@ -270,8 +258,8 @@ fn read_lines(table: &[u8], count: usize, from: usize) -> Step
             Step::Next(next) => {
                 at = next;
             }
-            Step::Stop(number, place) => {
-                return Step::Stop(number, place);
+            Step::Stop(why) => {
+                return Step::Stop(why);
             }
         }
         n += 1;
@@ -288,13 +276,13 @@ fn read_body(table: &[u8]) -> Step
         Step::Next(next) => match read_lines(table, wide(table[LINES]), next) {
             Step::Next(end) => {
                 if end < table.len() {
-                    return Step::Stop(BYTES_AFTER, end);
+                    return Step::Stop(Answer::BytesAfter(end));
                 }
                 Step::Next(end)
             }
-            Step::Stop(number, place) => Step::Stop(number, place),
+            Step::Stop(why) => Step::Stop(why),
         },
-        Step::Stop(number, place) => Step::Stop(number, place),
+        Step::Stop(why) => Step::Stop(why),
     }
 }
 
@@ -305,9 +293,9 @@ pub fn check(table: &[u8]) -> Verdict
     match read_header(table) {
         Step::Next(_) => match read_body(table) {
             Step::Next(_) => Verdict::Readable,
-            Step::Stop(number, place) => Verdict::Refused(number, place),
+            Step::Stop(why) => Verdict::Refused(why),
         },
-        Step::Stop(number, place) => Verdict::Refused(number, place),
+        Step::Stop(why) => Verdict::Refused(why),
     }
 }
 

@@ -12,10 +12,10 @@ returns : tie.Need-returns
 returns c = check-all _ _ _ (sym (c .before .before .before .before .before .read-header .ensures) ∙ c .before .before .before .enum-told .given .1) (sym (c .before .before .read-body .ensures) ∙ c .enum-told2 .given .1)
 
 returns-2 : tie.Need-returns-2
-returns-2 c = check-body _ _ _ _ (sym (c .before .before .before .before .before .before .read-header .ensures) ∙ c .before .before .before .before .enum-told .given .1) (sym (c .before .before .before .read-body .ensures) ∙ c .before .number .given .1)
+returns-2 c = check-body _ _ _ (sym (c .before .before .before .before .before .before .read-header .ensures) ∙ c .before .before .before .before .enum-told .given .1) (sym (c .before .before .before .read-body .ensures) ∙ c .before .why .given .1)
 
 returns-3 : tie.Need-returns-3
-returns-3 c = check-header _ _ _ (sym (c .before .before .before .read-header .ensures) ∙ c .before .number2 .given .1)
+returns-3 c = check-header _ _ (sym (c .before .before .before .read-header .ensures) ∙ c .before .why2 .given .1)
 
 pub check-spec : {M : Type 1} → statement M
 check-spec =

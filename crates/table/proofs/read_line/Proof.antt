@@ -13,7 +13,7 @@ returns-2 : tie.Need-returns-2
 returns-2 c = line-left _ _ _ (omega arith) (omega arith)
 
 returns-4 : tie.Need-returns-4
-returns-4 c = line-stop _ _ _ _ _ _ (sym (c .before .before .before .read-entries .ensures) ∙ c .before .number .given .1) (omega arith) (omega arith) (omega arith)
+returns-4 c = line-stop _ _ _ _ _ (sym (c .before .before .before .read-entries .ensures) ∙ c .before .why .given .1) (omega arith) (omega arith) (omega arith)
 
 returns-3 : tie.Need-returns-3
 returns-3 c = c .read-entry .ensures ∙ line-right _ _ _ _ _ (sym (c .before .before .before .before .read-entries .ensures) ∙ c .before .before .next .given .1) (omega arith) (omega arith) (omega arith)

@@ -19,7 +19,7 @@ loop-holds : tie.Need-loop-holds Inv-loop μ-loop
 loop-holds c = (omega arith, turn-start _ _ _)
 
 returns : tie.Need-returns Inv-loop μ-loop
-returns c = sym (c .before .before .before .before .before .loop .inv .1 ∙ turn-stop _ _ _ _ _ _ (omega arith) (sym (c .before .before .before .read-row .ensures) ∙ c .before .number .given .1))
+returns c = sym (c .before .before .before .before .before .loop .inv .1 ∙ turn-stop _ _ _ _ _ (omega arith) (sym (c .before .before .before .read-row .ensures) ∙ c .before .why .given .1))
 
 loop-again : tie.Need-loop-again Inv-loop μ-loop
 loop-again c = (omega arith, c .before .before .before .before .before .loop .inv .1 ∙ turn-next _ _ _ _ _ (omega arith) (sym (c .before .before .before .read-row .ensures) ∙ c .before .next .given .1))

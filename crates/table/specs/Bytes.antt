@@ -1,26 +1,29 @@
 -- How a table is written as bytes, and what it must keep to.
 --
 --   fillerCode f, entryCode x  == the code of a filler, of an entry
---   writtenHeader h            == the ten bytes of the mark, the version and the counts h
+--   writtenHeader h            == the bytes of the mark, the version and the counts h
 --   writtenRow, writtenEntry, writtenLine == the bytes of a row, of an entry, of a line
 --   bytesWith h rows lines     == a header with the counts h, and these rows and lines behind it
 --   countsOf t                 == the five counts of the table t
 --   bytesOf t                  == the bytes of the table t
---   Within h                   == the counts h are within their bounds
---   lineRight t l              == the line l has at most 8 left entries, and all it names is declared in t
+--   Within b h                 == the counts h are within the bounds b
+--   lineRight t l              == the line l has at most `maxLeft` left entries, and all it names is declared in t
 --   Right h rows lines         == counts within their bounds, and rows and lines that may stand under them
 --   Fits t                     == the table t keeps to all that
 --   IsTable s t                == the bytes s are a readable table, t: the bytes of t, which fits
+--   longestLine, longestLength, enoughLength == how long a line and a table can be, and how much of an input is looked at
+--   longestTable               == a longest table
 use mathlib.Core.Path.{_≡_}
 use mathlib.Core.Bool.{Bool, _&&_}
 use mathlib.Core.List.{List, [], _∷_, _++_, flatMap}
-use Prim.Native.Nat.{ℕ, _+_, _≤_}
+use Prim.Native.Nat.{ℕ, _+_, _*_, _≤_}
 use lib.Dec.{T, leb}
-use lib.ListN.{length}
+use lib.ListN.{length, replicate}
 use Rattle.el.specs.Test.{everyOf}
 use Rattle.el.specs.Table.{Filler, topF, constantF, variableF, Entry, constant, restriction, variable, Row, Line, Table, rowDeclared, lineDeclared}
-use Rattle.bounds.specs.Bounds.{maxAtoms, maxRoles, maxVariables, maxLines, maxLeft}
-use Rattle.table.specs.Reading.{Header, tableWith}
+use Rattle.bounds.specs.Bounds.{Bounds, bounds, maxAtoms, maxLines, maxLeft}
+use Rattle.table.specs.declared.Header.{Header}
+use Rattle.table.specs.Reading.{headerLength, tableWith}
 
 -- "0x00 top; 0x20+k constant k; 0x40+k restriction k; 0x60+k variable k"
 unfoldable pub fillerCode : Filler → ℕ
@@ -59,18 +62,18 @@ unfoldable pub bytesOf : Table → List ℕ
 bytesOf t = bytesWith (countsOf t) (t .rows) (t .lines)
 
 -- "Bounds: c + e at most 24, r at most 16, v at most 12, m at most 64"
-pub record Within (h : Header) : Type 0 where
-  pub few-roles : h .r ≤ maxRoles
-  pub few-variables : h .v ≤ maxVariables
-  pub few-atoms : h .c + h .e ≤ maxAtoms
-  pub few-lines : h .m ≤ maxLines
+pub record Within (b : Bounds) (h : Header) : Type 0 where
+  pub few-roles : h .r ≤ b .roles
+  pub few-variables : h .v ≤ b .variables
+  pub few-atoms : h .c + h .e ≤ b .atoms
+  pub few-lines : h .m ≤ b .lines
 
 -- "p at most 8"
 unfoldable pub lineRight : Table → Line → Bool
 lineRight t l = leb (length (l .left)) maxLeft && lineDeclared t l
 
 pub record Right (h : Header) (rows : List Row) (lines : List Line) : Type 0 where
-  pub counts : Within h
+  pub counts : Within bounds h
   pub rows-right : T (everyOf (rowDeclared (tableWith h rows lines)) rows)
   pub lines-right : T (everyOf (lineRight (tableWith h rows lines)) lines)
 
@@ -79,3 +82,24 @@ Fits t = Right (countsOf t) (t .rows) (t .lines)
 
 unfoldable pub IsTable : List ℕ → Table → Type 0
 IsTable s t = (s ≡ bytesOf t) × Fits t
+
+-- a line of as many left entries as are allowed; "The longest readable table has 698 bytes."; one byte more is enough to refuse
+abbrev pub longestLine : ℕ
+longestLine = maxLeft + 2
+
+abbrev pub longestLength : ℕ
+longestLength = headerLength + 2 * maxAtoms + longestLine * maxLines
+
+abbrev pub enoughLength : ℕ
+enoughLength = longestLength + 1
+
+-- as many rows, lines and left entries as are allowed
+unfoldable pub longestTable : Table
+longestTable =
+    record {
+      constants = 0;
+      roles = 1;
+      variables = 0;
+      rows = replicate maxAtoms (record { role = 0; filler = topF });
+      lines = replicate maxLines (record { left = replicate maxLeft (restriction 0); right = restriction 0 });
+    }

@@ -1,24 +1,26 @@
 -- Laws of codes: the kind of a code by its range, and the code of a kind.
 --
 --   kind-..   == the kind of a code in each range
---   codeOf k  == the code of a kind
---   Ranged k, InRange k == the kind k is of a range; and its number fits there
 --   code-kind, kind-code == a code is the code of its kind, and a kind in range is the kind of its code
 --   within-some, within-is == a number that was read is declared, and a declared one is read
---   filler-declared, entry-declared == what a code writes is declared
+--   filler-writes, entry-writes == the view of what a code writes
+--   filler-code, entry-code == a filler, an entry that a code writes has that code, and is declared
+--   filler-is, entry-is     == a declared one is written by its code
 use mathlib.Core.Path.{_≡_, refl, sym, ap, subst, _∙_}
 use mathlib.Core.Bool.{Bool, true, false, cond}
 use mathlib.Core.Option.{Option, none, some, Option·none-ne-some}
 use Prim.Native.Nat.{ℕ, _+_, _-_, _≤_, _<_}
 use native.Mathlib.Omega.{arith}
 use native.Mathlib.Decide.{decLe, ℕ-discrete}
-use lib.Dec.{T, ltb, lt→ltb}
+use lib.Dec.{T, ltb, lt→ltb, ltb→lt}
 use lib.ListN.{length}
-use borrow.Author.Tests.{ltb-true, lt-ltb, le-leb, lt-leb, eq-eqb, ne-eqb}
+use borrow.Author.Tests.{ltb-true, le-leb, lt-leb, eq-eqb, ne-eqb}
+use Rattle.el.specs.TestLaws.{is-true}
 use Rattle.el.specs.Table.{Filler, topF, constantF, variableF, Entry, constant, restriction, variable, Table, fillerDeclared, entryDeclared}
 use Rattle.table.specs.declared.Kind.{Kind}
 use Rattle.table.specs.declared.Kind.the-variants.{Top, Constant, Restriction, Variable, Other}
-use Rattle.table.specs.Code.{kindOf, within, fillerOfKind, fillerOf, entryOfKind, entryOf}
+use Rattle.table.specs.Code.{kindOf, codeOf, InRange, Ranged, within, fillerOfKind, fillerOf, entryOfKind, entryOf, WritesFiller, fills-top, fills-constant, fills-variable, WritesEntry, enters-constant, enters-restriction, enters-variable}
+use Rattle.table.specs.Bytes.{fillerCode, entryCode}
 
 module _ (b : ℕ) where
   pub kind-top : b ≡ 0 → Top ≡ kindOf b
@@ -56,34 +58,12 @@ module _ (b : ℕ) where
 
 ------------------------------------------------------------------ the code of a kind
 
-abbrev pub codeOf : Kind → ℕ
-codeOf Top = 0x00
-codeOf (Constant k) = 0x20 + k
-codeOf (Restriction k) = 0x40 + k
-codeOf (Variable k) = 0x60 + k
-codeOf Other = 0x01
-
-abbrev pub InRange : Kind → Type 0
-InRange Top = Unit {0}
-InRange (Constant k) = k < 0x20
-InRange (Restriction k) = k < 0x20
-InRange (Variable k) = Unit {0}
-InRange Other = ⊥
-
 pub kind-code : (k : Kind) → InRange k → kindOf (codeOf k) ≡ k
 kind-code Top r = sym (kind-top 0 refl)
 kind-code (Constant k) r = sym (kind-constant (0x20 + k) (omega arith) (omega arith)) ∙ ap Constant (let e : 0x20 + k - 0x20 ≡ k = omega arith in e)
 kind-code (Restriction k) r = sym (kind-restriction (0x40 + k) (omega arith) (omega arith)) ∙ ap Restriction (let e : 0x40 + k - 0x40 ≡ k = omega arith in e)
 kind-code (Variable k) r = sym (kind-variable (0x60 + k) (omega arith)) ∙ ap Variable (let e : 0x60 + k - 0x60 ≡ k = omega arith in e)
 kind-code Other r = absurd r
-
--- a kind of one of the four ranges
-abbrev pub Ranged : Kind → Type 0
-Ranged Top = Unit {0}
-Ranged (Constant k) = Unit {0}
-Ranged (Restriction k) = Unit {0}
-Ranged (Variable k) = Unit {0}
-Ranged Other = ⊥
 
 pub code-kind : (b : ℕ) (k : Kind) → kindOf b ≡ k → Ranged k → b ≡ codeOf k
 code-kind b k is r = first (ℕ-discrete b 0)
@@ -107,7 +87,7 @@ code-kind b k is r = first (ℕ-discrete b 0)
     first (yes z) = of Top (kind-top b z) z
     first (no n) = other n (decLe 0x20 b)
 
------------------------------------------------------------------- what a code writes is declared
+------------------------------------------------------------------ what a code writes
 
 pub within-some : {A : Type 0} (k n : ℕ) (a x : A) → within k n a ≡ some x → (k < n) × (a ≡ x)
 unfolding within
@@ -117,29 +97,59 @@ within-some k n a x q = go (ltb k n) refl q
     go true e q = (ltb-true k n e, cc)
     go false e q = absurd (Option·none-ne-some x q)
 
-pub within-is : {A : Type 0} (k n : ℕ) (a : A) → k < n → within k n a ≡ some a
+within-is : {A : Type 0} (k n : ℕ) (a : A) → T (ltb k n) → within k n a ≡ some a
 unfolding within
-within-is k n a l = rw (lt-ltb k n l)
+within-is k n a l = rw (is-true (ltb k n) l)
+
+pub filler-writes : (c v b : ℕ) (f : Filler) → fillerOf c v b ≡ some f → WritesFiller c v b f
+unfolding fillerOf fillerOfKind
+filler-writes c v b f q = go (kindOf b) refl q
+  where
+    go : (k : Kind) → kindOf b ≡ k → fillerOfKind c v k ≡ some f → WritesFiller c v b f
+    go Top i q = let e : topF ≡ f = cc in subst (WritesFiller c v b) e (fills-top i)
+    go (Constant k) i q = let w = within-some k c (constantF k) f q in subst (WritesFiller c v b) (w .1) (fills-constant k i (w .0))
+    go (Restriction k) i q = absurd (Option·none-ne-some f q)
+    go (Variable k) i q = let w = within-some k v (variableF k) f q in subst (WritesFiller c v b) (w .1) (fills-variable k i (w .0))
+    go Other i q = absurd (Option·none-ne-some f q)
+
+pub entry-writes : (c e v b : ℕ) (x : Entry) → entryOf c e v b ≡ some x → WritesEntry c e v b x
+unfolding entryOf entryOfKind
+entry-writes c e v b x q = go (kindOf b) refl q
+  where
+    go : (k : Kind) → kindOf b ≡ k → entryOfKind c e v k ≡ some x → WritesEntry c e v b x
+    go Top i q = absurd (Option·none-ne-some x q)
+    go (Constant k) i q = let w = within-some k c (constant k) x q in subst (WritesEntry c e v b) (w .1) (enters-constant k i (w .0))
+    go (Restriction k) i q = let w = within-some k e (restriction k) x q in subst (WritesEntry c e v b) (w .1) (enters-restriction k i (w .0))
+    go (Variable k) i q = let w = within-some k v (variable k) x q in subst (WritesEntry c e v b) (w .1) (enters-variable k i (w .0))
+    go Other i q = absurd (Option·none-ne-some x q)
 
 module _ (t : Table) where
-  pub filler-declared : (b : ℕ) (f : Filler) → fillerOf (t .constants) (t .variables) b ≡ some f → T (fillerDeclared t f)
-  unfolding fillerOf fillerOfKind
-  filler-declared b f q = go (kindOf b) q
+  pub filler-code : (b : ℕ) (f : Filler) → fillerOf (t .constants) (t .variables) b ≡ some f → (b ≡ fillerCode f) × T (fillerDeclared t f)
+  unfolding fillerCode
+  filler-code b f q = go (filler-writes (t .constants) (t .variables) b f q)
     where
-      go : (k : Kind) → fillerOfKind (t .constants) (t .variables) k ≡ some f → T (fillerDeclared t f)
-      go Top q = let e : topF ≡ f = cc in subst (λ (x : Filler). T (fillerDeclared t x)) e tt
-      go (Constant k) q = let w = within-some k (t .constants) (constantF k) f q in subst (λ (x : Filler). T (fillerDeclared t x)) (w .1) (lt→ltb k (t .constants) (w .0))
-      go (Restriction k) q = absurd (Option·none-ne-some f q)
-      go (Variable k) q = let w = within-some k (t .variables) (variableF k) f q in subst (λ (x : Filler). T (fillerDeclared t x)) (w .1) (lt→ltb k (t .variables) (w .0))
-      go Other q = absurd (Option·none-ne-some f q)
+      go : {f : Filler} → WritesFiller (t .constants) (t .variables) b f → (b ≡ fillerCode f) × T (fillerDeclared t f)
+      go (fills-top i) = (code-kind b Top i tt, tt)
+      go (fills-constant k i l) = (code-kind b (Constant k) i tt, lt→ltb k (t .constants) l)
+      go (fills-variable k i l) = (code-kind b (Variable k) i tt, lt→ltb k (t .variables) l)
 
-  pub entry-declared : (b : ℕ) (x : Entry) → entryOf (t .constants) (length (t .rows)) (t .variables) b ≡ some x → T (entryDeclared t x)
-  unfolding entryOf entryOfKind
-  entry-declared b x q = go (kindOf b) q
+  pub entry-code : (b : ℕ) (x : Entry) → entryOf (t .constants) (length (t .rows)) (t .variables) b ≡ some x → (b ≡ entryCode x) × T (entryDeclared t x)
+  unfolding entryCode
+  entry-code b x q = go (entry-writes (t .constants) (length (t .rows)) (t .variables) b x q)
     where
-      go : (k : Kind) → entryOfKind (t .constants) (length (t .rows)) (t .variables) k ≡ some x → T (entryDeclared t x)
-      go Top q = absurd (Option·none-ne-some x q)
-      go (Constant k) q = let w = within-some k (t .constants) (constant k) x q in subst (λ (y : Entry). T (entryDeclared t y)) (w .1) (lt→ltb k (t .constants) (w .0))
-      go (Restriction k) q = let w = within-some k (length (t .rows)) (restriction k) x q in subst (λ (y : Entry). T (entryDeclared t y)) (w .1) (lt→ltb k (length (t .rows)) (w .0))
-      go (Variable k) q = let w = within-some k (t .variables) (variable k) x q in subst (λ (y : Entry). T (entryDeclared t y)) (w .1) (lt→ltb k (t .variables) (w .0))
-      go Other q = absurd (Option·none-ne-some x q)
+      go : {x : Entry} → WritesEntry (t .constants) (length (t .rows)) (t .variables) b x → (b ≡ entryCode x) × T (entryDeclared t x)
+      go (enters-constant k i l) = (code-kind b (Constant k) i tt, lt→ltb k (t .constants) l)
+      go (enters-restriction k i l) = (code-kind b (Restriction k) i tt, lt→ltb k (length (t .rows)) l)
+      go (enters-variable k i l) = (code-kind b (Variable k) i tt, lt→ltb k (t .variables) l)
+
+  pub filler-is : t .constants ≤ 0x20 → (f : Filler) → T (fillerDeclared t f) → fillerOf (t .constants) (t .variables) (fillerCode f) ≡ some f
+  unfolding fillerOf fillerOfKind fillerCode
+  filler-is few topF d = ap (fillerOfKind (t .constants) (t .variables)) (kind-code Top tt)
+  filler-is few (constantF k) d = ap (fillerOfKind (t .constants) (t .variables)) (kind-code (Constant k) (let l = ltb→lt k (t .constants) d in omega arith)) ∙ within-is k (t .constants) (constantF k) d
+  filler-is few (variableF k) d = ap (fillerOfKind (t .constants) (t .variables)) (kind-code (Variable k) tt) ∙ within-is k (t .variables) (variableF k) d
+
+  pub entry-is : t .constants ≤ 0x20 → length (t .rows) ≤ 0x20 → (x : Entry) → T (entryDeclared t x) → entryOf (t .constants) (length (t .rows)) (t .variables) (entryCode x) ≡ some x
+  unfolding entryOf entryOfKind entryCode
+  entry-is few rows (constant k) d = ap (entryOfKind _ _ _) (kind-code (Constant k) (let l = ltb→lt k (t .constants) d in omega arith)) ∙ within-is k (t .constants) (constant k) d
+  entry-is few rows (restriction k) d = ap (entryOfKind _ _ _) (kind-code (Restriction k) (let l = ltb→lt k (length (t .rows)) d in omega arith)) ∙ within-is k (length (t .rows)) (restriction k) d
+  entry-is few rows (variable k) d = ap (entryOfKind _ _ _) (kind-code (Variable k) tt) ∙ within-is k (t .variables) (variable k) d

@@ -7,19 +7,19 @@
 use mathlib.Core.Path.{_≡_}
 use mathlib.Core.List.{List, []}
 use mathlib.Core.Option.{some}
-use Prim.Native.Nat.{ℕ, zero, suc, _+_, _*_, _≤_, _<_}
+use Prim.Native.Nat.{ℕ, zero, suc, _+_, _≤_, _<_}
 use lib.Dec.{T}
 use lib.ListN.{length, getD}
 use Rattle.el.specs.Table.{constant, Line, Table, rowAt, declared}
 use Rattle.table.specs.Code.{fillerOf, entryOf}
 use Rattle.bounds.specs.Bounds.{maxAtoms, maxRoles, maxVariables, maxLines, maxLeft}
-use Rattle.table.specs.Reading.{byteAt, headerOf, tableOf}
+use Rattle.table.specs.Reading.{byteAt, headerLength, headerOf, rowStart, fillerPlace, tableOf}
 
 unfoldable pub lineAt : List Line → ℕ → Line
 lineAt lines n = getD lines n (record { left = []; right = constant 0 })
 
 unfoldable pub lineStart : List ℕ → ℕ → ℕ
-lineStart s zero = 10 + 2 * headerOf s .e
+lineStart s zero = rowStart s (headerOf s .e)
 lineStart s (suc n) = lineStart s n + byteAt s (lineStart s n) + 2
 
 unfoldable pub IsRowFiller : List ℕ → ℕ → ℕ → Type 0
@@ -35,10 +35,10 @@ pub record Layout (s : List ℕ) (t : Table) : Type 0 where
   pub few-variables : headerOf s .v ≤ maxVariables
   pub few-atoms : headerOf s .c + headerOf s .e ≤ maxAtoms
   pub few-lines : headerOf s .m ≤ maxLines
-  pub header-in : 10 ≤ length s
-  pub row-in : (k : ℕ) → k < headerOf s .e → 11 + 2 * k < length s
-  pub row-role : (k : ℕ) → k < headerOf s .e → rowAt (t .rows) k .role ≡ byteAt s (10 + 2 * k)
-  pub row-filler : (k : ℕ) → k < headerOf s .e → fillerOf (headerOf s .c) (headerOf s .v) (byteAt s (11 + 2 * k)) ≡ some (rowAt (t .rows) k .filler)
+  pub header-in : headerLength ≤ length s
+  pub row-in : (k : ℕ) → k < headerOf s .e → fillerPlace s k < length s
+  pub row-role : (k : ℕ) → k < headerOf s .e → rowAt (t .rows) k .role ≡ byteAt s (rowStart s k)
+  pub row-filler : (k : ℕ) → k < headerOf s .e → fillerOf (headerOf s .c) (headerOf s .v) (byteAt s (fillerPlace s k)) ≡ some (rowAt (t .rows) k .filler)
   pub line-in : (n : ℕ) → n < headerOf s .m → lineStart s n + byteAt s (lineStart s n) + 2 ≤ length s
   pub line-few : (n : ℕ) → n < headerOf s .m → byteAt s (lineStart s n) ≤ maxLeft
   pub line-left : (n : ℕ) → n < headerOf s .m → length (lineAt (t .lines) n .left) ≡ byteAt s (lineStart s n)

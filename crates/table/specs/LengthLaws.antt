@@ -1,9 +1,9 @@
 -- How long tables are, and what of a longer input is looked at.
 --
 --   rows-length, lines-length == the bytes of rows, and of lines that are right
---   begun-length   == bytes that are right so far are at most 698
+--   begun-length   == bytes that are right so far are no longer than the longest table
 --   longest        == "The longest readable table has 698 bytes."
---   longestTable, longest-reached == one that has them
+--   longest-reached == one has them
 --   first-bytes    == THE FIRST 699 BYTES OF AN INPUT ARE READ AS THE WHOLE INPUT IS
 use mathlib.Core.Path.{_≡_, refl, sym, ap, subst, _∙_}
 use mathlib.Core.Bool.{Bool, true, false, not}
@@ -12,15 +12,16 @@ use Prim.Native.Nat.{ℕ, zero, suc, _+_, _*_, _-_, _≤_, _<_}
 use native.Mathlib.Omega.{arith}
 use native.Mathlib.Decide.{decLe}
 use lib.Dec.{T, leb, leb→le}
-use lib.ListN.{length, take, getD, replicate, length-append, length-take}
+use lib.ListN.{length, take, getD, length-append, length-take}
 use lib.Seq.{take-all, length-take-le, getD-take, take-append-add}
 use Rattle.el.specs.Test.{everyOf}
 use Rattle.el.specs.TestLaws.{and-left, and-right}
-use Rattle.el.specs.Table.{topF, restriction, Entry, Row, Line, Table, lineDeclared}
-use Rattle.bounds.specs.Bounds.{maxLeft}
+use Rattle.el.specs.Table.{Entry, Row, Line, Table, lineDeclared}
+use Rattle.bounds.specs.Bounds.{maxAtoms, maxLines, maxLeft}
 use Rattle.answer.specs.declared.Answer.{Answer}
-use Rattle.table.specs.Reading.{byteAt, Header, headerOf, marked, versionOne, tableWith, Reading, refusal, readable, reading, tableOf, isReadable}
-use Rattle.table.specs.Bytes.{fillerCode, entryCode, writtenHeader, writtenRow, writtenEntry, writtenLine, bytesWith, countsOf, bytesOf, lineRight, Right, Fits}
+use Rattle.table.specs.declared.Header.{Header}
+use Rattle.table.specs.Reading.{byteAt, constantsPlace, rolesPlace, variablesPlace, restrictionsPlace, linesPlace, headerLength, headerOf, marked, versionOne, tableWith, Reading, refusal, readable, reading, tableOf, isReadable}
+use Rattle.table.specs.Bytes.{fillerCode, entryCode, writtenHeader, writtenRow, writtenEntry, writtenLine, bytesWith, countsOf, bytesOf, lineRight, Right, Fits, longestLine, longestLength, enoughLength, longestTable}
 use Rattle.table.specs.BytesLaws.{readable-is-written, written-is-readable}
 use Rattle.table.specs.Refusal.{Slot, aRole, aFiller, aCount, anEntry, nothing, Begins, Over, RefusedAt, header-cut, wrong-mark, wrong-version, over-bound, over-left, ends-early, not-allowed, bytes-after}
 use Rattle.table.specs.RefusalLaws.{refused-means, means-refusal}
@@ -35,7 +36,7 @@ unfolding flatMap writtenEntry
 entries-length [] = refl
 entries-length (x ∷ xs) = ap suc (entries-length xs)
 
-line-length : (t : Table) (l : Line) → T (lineRight t l) → length (writtenLine l) ≤ 10
+line-length : (t : Table) (l : Line) → T (lineRight t l) → length (writtenLine l) ≤ longestLine
 unfolding writtenLine lineRight writtenEntry
 line-length t l r =
     let few : length (l .left) ≤ maxLeft = leb→le (length (l .left)) maxLeft (and-left (leb (length (l .left)) maxLeft) (lineDeclared t l) r) in
@@ -43,40 +44,40 @@ line-length t l r =
     let both : length (flatMap writtenEntry (l .left) ++ writtenEntry (l .right)) ≡ length (flatMap writtenEntry (l .left)) + 1 = length-append (flatMap writtenEntry (l .left)) (writtenEntry (l .right)) in
     omega arith
 
-lines-length : (t : Table) (lines : List Line) → T (everyOf (lineRight t) lines) → length (flatMap writtenLine lines) ≤ 10 * length lines
+lines-length : (t : Table) (lines : List Line) → T (everyOf (lineRight t) lines) → length (flatMap writtenLine lines) ≤ longestLine * length lines
 unfolding flatMap everyOf
 lines-length t [] r = omega arith
 lines-length t (l ∷ lines) r =
-    let first : length (writtenLine l) ≤ 10 = line-length t l (and-left (lineRight t l) (everyOf (lineRight t) lines) r) in
-    let ih : length (flatMap writtenLine lines) ≤ 10 * length lines = lines-length t lines (and-right (lineRight t l) (everyOf (lineRight t) lines) r) in
+    let first : length (writtenLine l) ≤ longestLine = line-length t l (and-left (lineRight t l) (everyOf (lineRight t) lines) r) in
+    let ih : length (flatMap writtenLine lines) ≤ longestLine * length lines = lines-length t lines (and-right (lineRight t l) (everyOf (lineRight t) lines) r) in
     let both : length (writtenLine l ++ flatMap writtenLine lines) ≡ length (writtenLine l) + length (flatMap writtenLine lines) = length-append (writtenLine l) (flatMap writtenLine lines) in
     omega arith
 
 -- rows and lines behind a header
-with-length : (h : Header) (rows : List Row) (lines : List Line) → Right h rows lines → length (bytesWith h rows lines) ≤ 10 + 2 * length rows + 10 * length lines
+with-length : (h : Header) (rows : List Row) (lines : List Line) → Right h rows lines → length (bytesWith h rows lines) ≤ headerLength + 2 * length rows + longestLine * length lines
 unfolding bytesWith writtenHeader
 with-length h rows lines right =
     let a : length (flatMap writtenRow rows) ≡ 2 * length rows = rows-length rows in
-    let b : length (flatMap writtenLine lines) ≤ 10 * length lines = lines-length (tableWith h rows lines) lines (right .lines-right) in
+    let b : length (flatMap writtenLine lines) ≤ longestLine * length lines = lines-length (tableWith h rows lines) lines (right .lines-right) in
     let c : length (flatMap writtenRow rows ++ flatMap writtenLine lines) ≡ length (flatMap writtenRow rows) + length (flatMap writtenLine lines) = length-append (flatMap writtenRow rows) (flatMap writtenLine lines) in
     omega arith
 
--- a whole table at most, so that 698 bytes are enough
-within-length : (h : Header) (rows : List Row) (lines : List Line) → Right h rows lines → length rows ≤ h .e → (k : ℕ) → length lines + k ≤ h .m → length (bytesWith h rows lines) + 10 * k ≤ 698
+-- a whole table at most
+within-length : (h : Header) (rows : List Row) (lines : List Line) → Right h rows lines → length rows ≤ h .e → (k : ℕ) → length lines + k ≤ h .m → length (bytesWith h rows lines) + longestLine * k ≤ longestLength
 within-length h rows lines right r k l =
     let w = with-length h rows lines right in
-    let e : h .c + h .e ≤ 24 = right .counts .few-atoms in
-    let m : h .m ≤ 64 = right .counts .few-lines in
+    let e : h .c + h .e ≤ maxAtoms = right .counts .few-atoms in
+    let m : h .m ≤ maxLines = right .counts .few-lines in
     omega arith
 
-begun-length : (h : Header) (good : List ℕ) (x : Slot) → Begins h good x → length good ≤ 698
+begun-length : (h : Header) (good : List ℕ) (x : Slot) → Begins h good x → length good ≤ longestLength
 begun-length h good aRole (rows, right, fewer, is) =
     let w = within-length h rows [] right (omega arith) 0 (omega arith) in
     let e : length good ≡ length (bytesWith h rows []) = ap length is in
     omega arith
 begun-length h good aFiller (rows, role, right, fewer, less, is) =
     let w = with-length h rows [] right in
-    let a : h .c + h .e ≤ 24 = right .counts .few-atoms in
+    let a : h .c + h .e ≤ maxAtoms = right .counts .few-atoms in
     let e : length good ≡ length (bytesWith h rows []) + 1 = ap length is ∙ length-append (bytesWith h rows []) (role ∷ []) in
     omega arith
 begun-length h good aCount (rows, lines, right, all, fewer, is) =
@@ -93,30 +94,19 @@ begun-length h good nothing (rows, lines, right, all, whole, is) =
     let e : length good ≡ length (bytesWith h rows lines) = ap length is in
     omega arith
 
-table-length : (t : Table) → Fits t → length (bytesOf t) ≤ 698
+table-length : (t : Table) → Fits t → length (bytesOf t) ≤ longestLength
 unfolding Fits bytesOf countsOf
 table-length t fits = let w = within-length (countsOf t) (t .rows) (t .lines) fits (omega arith) 0 (omega arith) in omega arith
 
 -- "The longest readable table has 698 bytes."
-pub longest : (s : List ℕ) → T (isReadable (reading s)) → length s ≤ 698
+pub longest : (s : List ℕ) → T (isReadable (reading s)) → length s ≤ longestLength
 longest s ok = go (reading s) refl ok
   where
-    go : (r : Reading) → reading s ≡ r → T (isReadable r) → length s ≤ 698
+    go : (r : Reading) → reading s ≡ r → T (isReadable r) → length s ≤ longestLength
     go (refusal why) e ok = absurd ok
-    go (readable h t) e ok = let w = readable-is-written s h t e in subst (λ (l : List ℕ). length l ≤ 698) (sym (w .0)) (table-length t (w .1))
+    go (readable h t) e ok = let w = readable-is-written s h t e in subst (λ (l : List ℕ). length l ≤ longestLength) (sym (w .0)) (table-length t (w .1))
 
--- 24 rows and 64 lines of 8 left entries
-unfoldable pub longestTable : Table
-longestTable =
-    record {
-      constants = 0;
-      roles = 1;
-      variables = 0;
-      rows = replicate 24 (record { role = 0; filler = topF });
-      lines = replicate 64 (record { left = replicate 8 (restriction 0); right = restriction 0 });
-    }
-
-pub longest-reached : Fits longestTable × (length (bytesOf longestTable) ≡ 698)
+pub longest-reached : Fits longestTable × (length (bytesOf longestTable) ≡ longestLength)
 unfolding longestTable Fits bytesOf bytesWith countsOf writtenHeader writtenRow writtenLine writtenEntry flatMap everyOf lineRight
 longest-reached = (
   record {
@@ -129,49 +119,49 @@ longest-reached = (
 
 ------------------------------------------------------------------ a longer input
 
-module _ (s : List ℕ) (long : 699 ≤ length s) where
-  kept : (i : ℕ) → i < 699 → byteAt (take 699 s) i ≡ byteAt s i
-  kept i w = getD-take 699 s i 0 w
+module _ (s : List ℕ) (long : enoughLength ≤ length s) where
+  kept : (i : ℕ) → i < enoughLength → byteAt (take enoughLength s) i ≡ byteAt s i
+  kept i w = getD-take enoughLength s i 0 w
 
-  kept-length : length (take 699 s) ≡ 699
-  kept-length = length-take-le 699 s long
+  kept-length : length (take enoughLength s) ≡ enoughLength
+  kept-length = length-take-le enoughLength s long
 
-  kept-mark : marked (take 699 s) ≡ marked s
+  kept-mark : marked (take enoughLength s) ≡ marked s
   unfolding marked
   kept-mark = simp (kept 0 (omega arith), kept 1 (omega arith), kept 2 (omega arith))
 
-  kept-version : versionOne (take 699 s) ≡ versionOne s
+  kept-version : versionOne (take enoughLength s) ≡ versionOne s
   unfolding versionOne
   kept-version = simp (kept 3 (omega arith), kept 4 (omega arith))
 
-  kept-counts : headerOf (take 699 s) ≡ headerOf s
-  kept-counts = λ i. record { c = kept 5 (omega arith) i; r = kept 6 (omega arith) i; v = kept 7 (omega arith) i; e = kept 8 (omega arith) i; m = kept 9 (omega arith) i }
+  kept-counts : headerOf (take enoughLength s) ≡ headerOf s
+  kept-counts = λ i. record { c = kept constantsPlace (omega arith) i; r = kept rolesPlace (omega arith) i; v = kept variablesPlace (omega arith) i; e = kept restrictionsPlace (omega arith) i; m = kept linesPlace (omega arith) i }
 
-  kept-front : (good : List ℕ) (b : ℕ) (tail : List ℕ) → s ≡ good ++ (b ∷ tail) → length good ≤ 698 → take 699 s ≡ good ++ (b ∷ take (698 - length good) tail)
+  kept-front : (good : List ℕ) (b : ℕ) (tail : List ℕ) → s ≡ good ++ (b ∷ tail) → length good ≤ longestLength → take enoughLength s ≡ good ++ (b ∷ take (longestLength - length good) tail)
   kept-front good b tail q w =
-      ap (take 699) q
-      ∙ ap (λ (k : ℕ). take k (good ++ (b ∷ tail))) (let e : 699 ≡ length good + suc (698 - length good) = omega arith in e)
-      ∙ take-append-add good (b ∷ tail) (suc (698 - length good))
+      ap (take enoughLength) q
+      ∙ ap (λ (k : ℕ). take k (good ++ (b ∷ tail))) (let e : enoughLength ≡ length good + suc (longestLength - length good) = omega arith in e)
+      ∙ take-append-add good (b ∷ tail) (suc (longestLength - length good))
 
-  kept-refusal : {why : Answer} → RefusedAt s why → RefusedAt (take 699 s) why
+  kept-refusal : {why : Answer} → RefusedAt s why → RefusedAt (take enoughLength s) why
   kept-refusal (header-cut w) = absurd (let z : ⊥ = omega arith in z)
   kept-refusal (wrong-mark l m) = wrong-mark (let e = kept-length in omega arith) (λ z. m (subst T kept-mark z))
   kept-refusal (wrong-version l m v) = wrong-version (let e = kept-length in omega arith) (subst T (sym kept-mark) m) (λ z. v (subst T kept-version z))
   kept-refusal (over-bound {at} l m v o) =
       over-bound (let e = kept-length in omega arith) (subst T (sym kept-mark) m) (subst T (sym kept-version) v) (subst (λ (h : Header). Over h at) (sym kept-counts) o)
-  kept-refusal (over-left h good p tail b q w) = over-left h good p (take (698 - length good) tail) b (kept-front good p tail q (begun-length h good aCount b)) w
+  kept-refusal (over-left h good p tail b q w) = over-left h good p (take (longestLength - length good) tail) b (kept-front good p tail q (begun-length h good aCount b)) w
   kept-refusal (ends-early h x a b) = let z = begun-length h s x b in absurd (let y : ⊥ = omega arith in y)
-  kept-refusal (not-allowed h x good b tail g q r) = not-allowed h x good b (take (698 - length good) tail) g (kept-front good b tail q (begun-length h good x g)) r
-  kept-refusal (bytes-after h good b tail g q) = bytes-after h good b (take (698 - length good) tail) g (kept-front good b tail q (begun-length h good nothing g))
+  kept-refusal (not-allowed h x good b tail g q r) = not-allowed h x good b (take (longestLength - length good) tail) g (kept-front good b tail q (begun-length h good x g)) r
+  kept-refusal (bytes-after h good b tail g q) = bytes-after h good b (take (longestLength - length good) tail) g (kept-front good b tail q (begun-length h good nothing g))
 
 -- THE FIRST 699 BYTES OF AN INPUT ARE READ AS THE WHOLE INPUT IS
-pub first-bytes : (s : List ℕ) → reading (take 699 s) ≡ reading s
-first-bytes s = go (decLe (length s) 699)
+pub first-bytes : (s : List ℕ) → reading (take enoughLength s) ≡ reading s
+first-bytes s = go (decLe (length s) enoughLength)
   where
-    over : 699 < length s → (r : Reading) → reading s ≡ r → reading (take 699 s) ≡ r
-    over l (refusal why) e = means-refusal (take 699 s) why (kept-refusal s (omega arith) (refused-means s why e))
+    over : enoughLength < length s → (r : Reading) → reading s ≡ r → reading (take enoughLength s) ≡ r
+    over l (refusal why) e = means-refusal (take enoughLength s) why (kept-refusal s (omega arith) (refused-means s why e))
     over l (readable h t) e = let w = longest s (subst (λ (r : Reading). T (isReadable r)) (sym e) tt) in absurd (let y : ⊥ = omega arith in y)
 
-    go : Dec (length s ≤ 699) → reading (take 699 s) ≡ reading s
-    go (yes l) = ap reading (take-all 699 s l)
+    go : Dec (length s ≤ enoughLength) → reading (take enoughLength s) ≡ reading s
+    go (yes l) = ap reading (take-all enoughLength s l)
     go (no l) = over (omega arith) (reading s) refl

@@ -1,26 +1,40 @@
--- What a list of bytes says: a refusal, or a table.
+-- What a list of bytes says: a refusal, or a table. No other file says at which byte a count or a row stands.
 --
 --   Read A               == a refusal, or something read and the place after it
 --   refuseIf t why x     == the refusal `why` where the test t passes, else x
+--   andThen x f          == what is read next, from the place after x
+--   orRefused at o       == what the code at `at` writes, or its refusal
+--   readMany one k at    == k of a kind from the byte `at` on, each read by `one`
 --   byteAt s i           == byte i
 --   missing s i          == there is no byte i
---   Header               == the five counts
---   readHeader s         == bytes 0 to 9
---   readMany one k at    == k of a kind from the byte `at` on, each read by `one`
---   readRow, readEntry, readLine s h at == the row, the entry, the line that begins at the byte `at`
---   readRows, readEntries, readLines s h k at == k of them
+--   constantsPlace, rolesPlace, variablesPlace, restrictionsPlace, linesPlace == the byte of each count
+--   headerLength         == how many bytes the header has
+--   headerOf s           == the five counts
+--   rowsAt s             == the byte where the rows begin
+--   rowStart s k, fillerPlace s k == the byte where row k begins, and that of its filler
+--   marked s, versionOne s == the mark and the version are right
+--   readCounts b h, readHeader b s == the counts h within the bounds b; the header with such counts
+--   readRow, readEntry s h at, readLine b s h at == the row, the entry, the line that begins at the byte `at`, where h is declared
+--   readRows, readEntries, readLines == k of them
+--   thenRight, thenEnd, thenLines == the rest of a line, and of a table
 --   tableWith h rows lines == the table of a header, with these rows and lines
---   Reading, reading s   == the whole
+--   readBody b s h       == the rows and lines, and nothing after them
+--   Reading              == a refusal, or a table with its counts
+--   readingWithin b s, reading s == the whole, within the bounds b, and within those of today
+--   Wider b w            == the bounds w are nowhere smaller than b
+--   theTable r, tableOf s == the table that was read; of an unreadable input an empty one
+--   isReadable r         == it is a table
 use mathlib.Core.Bool.{Bool, true, false, _&&_, not}
 use mathlib.Core.List.{List, [], _∷_}
 use mathlib.Core.Option.{Option, none, some}
-use Prim.Native.Nat.{ℕ, zero, suc, _+_}
+use Prim.Native.Nat.{ℕ, zero, suc, _+_, _*_, _≤_}
 use lib.Dec.{eqb, leb, ltb}
 use lib.ListN.{length, getD}
 use Rattle.el.specs.Table.{Entry, Row, Line, Table}
 use Rattle.answer.specs.declared.Answer.{Answer}
 use Rattle.answer.specs.declared.Answer.the-variants.{EndsEarly, WrongMark, WrongVersion, OverBound, NotAllowed, BytesAfter}
-use Rattle.bounds.specs.Bounds.{maxAtoms, maxRoles, maxVariables, maxLines, maxLeft}
+use Rattle.bounds.specs.Bounds.{Bounds, bounds}
+use Rattle.table.specs.declared.Header.{Header}
 use Rattle.table.specs.Code.{fillerOf, entryOf}
 
 pub data Read (A : Type 0) : Type 0 where
@@ -46,6 +60,8 @@ unfoldable pub readMany : {A : Type 0} → (ℕ → Read A) → ℕ → ℕ → 
 readMany one zero at = got [] at
 readMany one (suc k) at = andThen (one at) (λ a next. andThen (readMany one k next) (λ l end. got (a ∷ l) end))
 
+------------------------------------------------------------------ where bytes lie
+
 abbrev pub byteAt : List ℕ → ℕ → ℕ
 byteAt s i = getD s i 0
 
@@ -53,15 +69,38 @@ abbrev pub missing : List ℕ → ℕ → Bool
 missing s i = leb (length s) i
 
 -- "Bytes 5 to 9, one count each: constants c, roles r, open names (variables) v, restrictions e, lines m."
-pub record Header : Type 0 where
-  pub c : ℕ
-  pub r : ℕ
-  pub v : ℕ
-  pub e : ℕ
-  pub m : ℕ
+abbrev pub constantsPlace : ℕ
+constantsPlace = 5
+
+abbrev pub rolesPlace : ℕ
+rolesPlace = 6
+
+abbrev pub variablesPlace : ℕ
+variablesPlace = 7
+
+abbrev pub restrictionsPlace : ℕ
+restrictionsPlace = 8
+
+abbrev pub linesPlace : ℕ
+linesPlace = 9
+
+abbrev pub headerLength : ℕ
+headerLength = 10
 
 abbrev pub headerOf : List ℕ → Header
-headerOf s = record { c = byteAt s 5; r = byteAt s 6; v = byteAt s 7; e = byteAt s 8; m = byteAt s 9 }
+headerOf s = record { c = byteAt s constantsPlace; r = byteAt s rolesPlace; v = byteAt s variablesPlace; e = byteAt s restrictionsPlace; m = byteAt s linesPlace }
+
+-- "Then e restriction rows of two bytes: a role, less than r, and a filler code."
+abbrev pub rowsAt : List ℕ → ℕ
+rowsAt s = headerLength
+
+abbrev pub rowStart : List ℕ → ℕ → ℕ
+rowStart s k = rowsAt s + 2 * k
+
+abbrev pub fillerPlace : List ℕ → ℕ → ℕ
+fillerPlace s k = rowsAt s + 1 + 2 * k
+
+------------------------------------------------------------------ the header
 
 -- "Bytes 0 to 2: the mark VOC (56 4F 43). Bytes 3 and 4: version, 1."
 unfoldable pub marked : List ℕ → Bool
@@ -70,17 +109,24 @@ marked s = eqb (byteAt s 0) 0x56 && (eqb (byteAt s 1) 0x4F && eqb (byteAt s 2) 0
 unfoldable pub versionOne : List ℕ → Bool
 versionOne s = eqb (byteAt s 3) 1 && eqb (byteAt s 4) 0
 
--- "fewer than 10 bytes gives 1 before anything else. Then mark, version, counts in byte order (c + e is judged at byte 8)"
-unfoldable pub readHeader : List ℕ → Read Header
-readHeader s =
-    refuseIf (ltb (length s) 10) (EndsEarly (length s))
+-- "counts in byte order (c + e is judged at byte 8)"
+unfoldable pub readCounts : Bounds → Header → Read Header
+readCounts b h =
+    refuseIf (ltb (b .roles) (h .r)) (OverBound rolesPlace)
+    (refuseIf (ltb (b .variables) (h .v)) (OverBound variablesPlace)
+    (refuseIf (ltb (b .atoms) (h .c + h .e)) (OverBound restrictionsPlace)
+    (refuseIf (ltb (b .lines) (h .m)) (OverBound linesPlace)
+    (got h headerLength))))
+
+-- "fewer than 10 bytes gives 1 before anything else. Then mark, version, counts"
+unfoldable pub readHeader : Bounds → List ℕ → Read Header
+readHeader b s =
+    refuseIf (ltb (length s) headerLength) (EndsEarly (length s))
     (refuseIf (not (marked s)) WrongMark
     (refuseIf (not (versionOne s)) WrongVersion
-    (refuseIf (ltb maxRoles (byteAt s 6)) (OverBound 6)
-    (refuseIf (ltb maxVariables (byteAt s 7)) (OverBound 7)
-    (refuseIf (ltb maxAtoms (byteAt s 5 + byteAt s 8)) (OverBound 8)
-    (refuseIf (ltb maxLines (byteAt s 9)) (OverBound 9)
-    (got (headerOf s) 10)))))))
+    (readCounts b (headerOf s))))
+
+------------------------------------------------------------------ rows and lines
 
 module _ (s : List ℕ) (h : Header) where
   -- "two bytes: a role, less than r, and a filler code"; "a missing byte gives 1"
@@ -101,44 +147,62 @@ module _ (s : List ℕ) (h : Header) where
   abbrev pub readEntries : ℕ → ℕ → Read (List Entry)
   readEntries = readMany readEntry
 
-  -- "a left count p, p atom codes, and one right atom code"; "an over-large p gives 4 before its entries are read"
-  unfoldable pub readLine : ℕ → Read Line
-  readLine at =
-      refuseIf (missing s at) (EndsEarly (length s))
-      (refuseIf (ltb maxLeft (byteAt s at)) (OverBound at)
-      (andThen (readEntries (byteAt s at) (at + 1)) (λ left next.
-      andThen (readEntry next) (λ right end.
-      got (record { left = left; right = right }) end))))
-
-  abbrev pub readLines : ℕ → ℕ → Read (List Line)
-  readLines = readMany readLine
-
-pub data Reading : Type 0 where
-  refusal : Answer → Reading
-  readable : Header → Table → Reading
+  abbrev pub thenRight : List Entry → ℕ → Read Line
+  thenRight left next = andThen (readEntry next) (λ right end. got (record { left = left; right = right }) end)
 
 -- the table of a header, with these rows and lines
 abbrev pub tableWith : Header → List Row → List Line → Table
 tableWith h rows lines = record { constants = h .c; roles = h .r; variables = h .v; rows = rows; lines = lines }
 
--- "rows and lines in byte order"; "Then 6": "bytes after the last line", place "first of them"
-unfoldable pub readBody : List ℕ → Header → Read Table
-readBody s h =
-    andThen (readRows s h (h .e) 10) (λ rows next.
-    andThen (readLines s h (h .m) next) (λ lines end.
-    refuseIf (ltb end (length s)) (BytesAfter end)
-    (got (tableWith h rows lines) end)))
+module _ (b : Bounds) (s : List ℕ) (h : Header) where
+  -- "a left count p, p atom codes, and one right atom code"; "an over-large p gives 4 before its entries are read"
+  unfoldable pub readLine : ℕ → Read Line
+  readLine at =
+      refuseIf (missing s at) (EndsEarly (length s))
+      (refuseIf (ltb (b .left) (byteAt s at)) (OverBound at)
+      (andThen (readEntries s h (byteAt s at) (at + 1)) (thenRight s h)))
+
+  abbrev pub readLines : ℕ → ℕ → Read (List Line)
+  readLines = readMany readLine
+
+  -- "Then 6": "bytes after the last line", place "first of them"
+  abbrev pub thenEnd : List Row → List Line → ℕ → Read Table
+  thenEnd rows lines end = refuseIf (ltb end (length s)) (BytesAfter end) (got (tableWith h rows lines) end)
+
+  abbrev pub thenLines : List Row → ℕ → Read Table
+  thenLines rows next = andThen (readLines (h .m) next) (thenEnd rows)
+
+  -- "rows and lines in byte order"
+  unfoldable pub readBody : Read Table
+  readBody = andThen (readRows s h (h .e) (rowsAt s)) thenLines
+
+------------------------------------------------------------------ the whole
+
+pub data Reading : Type 0 where
+  refusal : Answer → Reading
+  readable : Header → Table → Reading
 
 abbrev pub whole : Header → Read Table → Reading
 whole h (refused why) = refusal why
 whole h (got t end) = readable h t
 
-abbrev pub fromHeader : List ℕ → Read Header → Reading
-fromHeader s (refused why) = refusal why
-fromHeader s (got h at) = whole h (readBody s h)
+abbrev pub fromHeader : Bounds → List ℕ → Read Header → Reading
+fromHeader b s (refused why) = refusal why
+fromHeader b s (got h at) = whole h (readBody b s h)
+
+abbrev pub readingWithin : Bounds → List ℕ → Reading
+readingWithin b s = fromHeader b s (readHeader b s)
 
 unfoldable pub reading : List ℕ → Reading
-reading s = fromHeader s (readHeader s)
+reading = readingWithin bounds
+
+-- bounds that are nowhere smaller
+pub record Wider (b w : Bounds) : Type 0 where
+  pub atoms : b .atoms ≤ w .atoms
+  pub roles : b .roles ≤ w .roles
+  pub variables : b .variables ≤ w .variables
+  pub lines : b .lines ≤ w .lines
+  pub left : b .left ≤ w .left
 
 -- the table of a readable list of bytes; of an unreadable one an empty table
 abbrev pub theTable : Reading → Table

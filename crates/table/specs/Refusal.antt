@@ -18,7 +18,8 @@ use Rattle.answer.specs.declared.Answer.{Answer}
 use Rattle.answer.specs.declared.Answer.the-variants.{EndsEarly, WrongMark, WrongVersion, OverBound, NotAllowed, BytesAfter}
 use Rattle.table.specs.Code.{fillerOf, entryOf}
 use Rattle.bounds.specs.Bounds.{maxAtoms, maxRoles, maxVariables, maxLines, maxLeft}
-use Rattle.table.specs.Reading.{Header, headerOf, marked, versionOne, tableWith}
+use Rattle.table.specs.declared.Header.{Header}
+use Rattle.table.specs.Reading.{rolesPlace, variablesPlace, restrictionsPlace, linesPlace, headerLength, headerOf, marked, versionOne, tableWith}
 use Rattle.table.specs.Bytes.{writtenEntry, bytesWith, Right}
 
 -- "restriction rows of two bytes: a role, less than r, and a filler code"; "lines, each a left count p, p atom codes, and one
@@ -54,20 +55,20 @@ Refuses h nothing b = ⊥
 
 -- "counts in byte order (c + e is judged at byte 8)"
 pub data Over (h : Header) : ℕ → Type 0 where
-  over-roles : maxRoles < h .r → Over h 6
-  over-variables : h .r ≤ maxRoles → maxVariables < h .v → Over h 7
-  over-atoms : h .r ≤ maxRoles → h .v ≤ maxVariables → maxAtoms < h .c + h .e → Over h 8
-  over-lines : h .r ≤ maxRoles → h .v ≤ maxVariables → h .c + h .e ≤ maxAtoms → maxLines < h .m → Over h 9
+  over-roles : maxRoles < h .r → Over h rolesPlace
+  over-variables : h .r ≤ maxRoles → maxVariables < h .v → Over h variablesPlace
+  over-atoms : h .r ≤ maxRoles → h .v ≤ maxVariables → maxAtoms < h .c + h .e → Over h restrictionsPlace
+  over-lines : h .r ≤ maxRoles → h .v ≤ maxVariables → h .c + h .e ≤ maxAtoms → maxLines < h .m → Over h linesPlace
 
 pub data RefusedAt (s : List ℕ) : Answer → Type 0 where
   -- "input ends early", "input length": "fewer than 10 bytes gives 1 before anything else"
-  header-cut : length s < 10 → RefusedAt s (EndsEarly (length s))
+  header-cut : length s < headerLength → RefusedAt s (EndsEarly (length s))
   -- "wrong mark", 0
-  wrong-mark : 10 ≤ length s → (T (marked s) → ⊥) → RefusedAt s WrongMark
+  wrong-mark : headerLength ≤ length s → (T (marked s) → ⊥) → RefusedAt s WrongMark
   -- "version is not 1", 3
-  wrong-version : 10 ≤ length s → T (marked s) → (T (versionOne s) → ⊥) → RefusedAt s WrongVersion
+  wrong-version : headerLength ≤ length s → T (marked s) → (T (versionOne s) → ⊥) → RefusedAt s WrongVersion
   -- "a count is over its bound", "its byte"
-  over-bound : {at : ℕ} → 10 ≤ length s → T (marked s) → T (versionOne s) → Over (headerOf s) at → RefusedAt s (OverBound at)
+  over-bound : {at : ℕ} → headerLength ≤ length s → T (marked s) → T (versionOne s) → Over (headerOf s) at → RefusedAt s (OverBound at)
   -- "an over-large p gives 4 before its entries are read"
   over-left : (h : Header) (good : List ℕ) (p : ℕ) (tail : List ℕ) → Begins h good aCount → s ≡ good ++ (p ∷ tail) → maxLeft < p → RefusedAt s (OverBound (length good))
   -- "a missing byte gives 1"

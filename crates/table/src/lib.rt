@@ -4,11 +4,17 @@ ghost use Prim.Native.Nat.{_≤_, _<_};
 ghost use lib.Dec.{T};
 ghost use lib.ListN.{length};
 ghost use Rattle.table.specs.Code.{kindOf, fillerOf, entryOf};
-ghost use Rattle.table.specs.Reading.{marked, versionOne, headerOf, readHeader, readRow, readRows, readEntry, readEntries, readLine, readLines, readBody, reading, tableOf, isReadable};
+ghost use Rattle.bounds.specs.Bounds.{bounds};
+ghost use Rattle.table.specs.Reading.{headerLength, marked, versionOne, headerOf, readCounts, readHeader, readRow, readRows, readEntry, readEntries, readLine, readLines, readBody, reading, tableOf, isReadable};
 ghost use Rattle.table.specs.Step.{isSome, stepOf, verdictOf};
 ghost use Rattle.el.specs.Table.{rowAt};
 ghost use Rattle.table.specs.Layout.{lineStart, IsRowFiller};
 use answer::Answer;
+use bounds::MAX_ATOMS;
+use bounds::MAX_LEFT;
+use bounds::MAX_LINES;
+use bounds::MAX_ROLES;
+use bounds::MAX_VARIABLES;
 
 // The bytes that hold the five counts, and the length of the header.
 pub const CONSTANTS: usize = 5;
@@ -26,16 +32,14 @@ pub const HEADER: usize = 10;
 // Where the filler of row 0 stands.
 const FILLER: usize = 11;
 
-// The bounds.
-pub const MAX_ATOMS: usize = 24;
-
-pub const MAX_ROLES: u8 = 16;
-
-pub const MAX_VARIABLES: u8 = 12;
-
-pub const MAX_LINES: u8 = 64;
-
-pub const MAX_LEFT: usize = 8;
+// The counts of a table: constants c, roles r, variables v, restrictions e, lines m.
+pub struct Header {
+    pub c: u8,
+    pub r: u8,
+    pub v: u8,
+    pub e: u8,
+    pub m: u8,
+}
 
 // What a code byte stands for, by its range alone.
 pub enum Kind {
@@ -70,28 +74,28 @@ pub fn kind_of(code: u8) -> Kind
     }
 }
 
-// Is the code a filler, where c constants and v variables are declared?
-fn filler_ok(code: u8, c: u8, v: u8) -> bool
-    ensures { λ r. ⌜ r ≡ isSome (fillerOf c v code) ⌝ }
+// Is the code a filler, where these counts are declared?
+fn filler_ok(code: u8, header: Header) -> bool
+    ensures { λ r. ⌜ r ≡ isSome (fillerOf (header .c) (header .v) code) ⌝ }
 {
     match kind_of(code) {
         Kind::Top => true,
-        Kind::Constant(k) => k < c,
+        Kind::Constant(k) => k < header.c,
         Kind::Restriction(_) => false,
-        Kind::Variable(k) => k < v,
+        Kind::Variable(k) => k < header.v,
         Kind::Other => false,
     }
 }
 
-// Is the code a left or right entry, where c constants, e restrictions and v variables are declared?
-fn entry_ok(code: u8, c: u8, e: u8, v: u8) -> bool
-    ensures { λ r. ⌜ r ≡ isSome (entryOf c e v code) ⌝ }
+// Is the code a left or right entry, where these counts are declared?
+fn entry_ok(code: u8, header: Header) -> bool
+    ensures { λ r. ⌜ r ≡ isSome (entryOf (header .c) (header .e) (header .v) code) ⌝ }
 {
     match kind_of(code) {
         Kind::Top => false,
-        Kind::Constant(k) => k < c,
-        Kind::Restriction(k) => k < e,
-        Kind::Variable(k) => k < v,
+        Kind::Constant(k) => k < header.c,
+        Kind::Restriction(k) => k < header.e,
+        Kind::Variable(k) => k < header.v,
         Kind::Other => false,
     }
 }
@@ -104,22 +108,55 @@ pub fn wide(x: u8) -> usize
 }
 
 fn has_mark(table: &[u8]) -> bool
-    requires { ⌜ 10 ≤ length (now table) ⌝ }
+    requires { ⌜ headerLength ≤ length (now table) ⌝ }
     ensures { λ r. ⌜ r ≡ marked (now (table .entry)) ⌝ }
 {
     table[0] == 0x56 && (table[1] == 0x4F && table[2] == 0x43)
 }
 
 fn is_version_one(table: &[u8]) -> bool
-    requires { ⌜ 10 ≤ length (now table) ⌝ }
+    requires { ⌜ headerLength ≤ length (now table) ⌝ }
     ensures { λ r. ⌜ r ≡ versionOne (now (table .entry)) ⌝ }
 {
     table[3] == 1 && table[4] == 0
 }
 
-// Bytes 0 to 9.
+// The counts of a table that is at least as long as its header.
+pub fn header_of(table: &[u8]) -> Header
+    requires { ⌜ headerLength ≤ length (now table) ⌝ }
+    ensures { λ r. ⌜ r ≡ headerOf (now (table .entry)) ⌝ }
+{
+    Header {
+        c: table[CONSTANTS],
+        r: table[ROLES],
+        v: table[VARIABLES],
+        e: table[RESTRICTIONS],
+        m: table[LINES],
+    }
+}
+
+// Are the counts within their bounds?
+fn read_counts(header: Header) -> Step
+    ensures { λ r. ⌜ r ≡ stepOf (readCounts bounds header) ⌝ }
+{
+    if MAX_ROLES < header.r {
+        return Step::Stop(Answer::OverBound(ROLES));
+    }
+    if MAX_VARIABLES < wide(header.v) {
+        return Step::Stop(Answer::OverBound(VARIABLES));
+    }
+    if MAX_ATOMS < wide(header.c) + wide(header.e) {
+        return Step::Stop(Answer::OverBound(RESTRICTIONS));
+    }
+    if MAX_LINES < wide(header.m) {
+        return Step::Stop(Answer::OverBound(LINES));
+    }
+    Step::Next(HEADER)
+}
+
+// The mark, the version and the counts.
 fn read_header(table: &[u8]) -> Step
-    ensures { λ r. ⌜ r ≡ stepOf (readHeader (now (table .entry))) ⌝ }
+    ensures { λ r. ⌜ r ≡ stepOf (readHeader bounds (now (table .entry))) ⌝ }
 {
     if table.len() < HEADER {
         return Step::Stop(Answer::EndsEarly(table.len()));
@@ -132,50 +169,36 @@ fn read_header(table: &[u8]) -> Step
     if !version {
         return Step::Stop(Answer::WrongVersion);
     }
-    if MAX_ROLES < table[ROLES] {
-        return Step::Stop(Answer::OverBound(ROLES));
-    }
-    if MAX_VARIABLES < table[VARIABLES] {
-        return Step::Stop(Answer::OverBound(VARIABLES));
-    }
-    if MAX_ATOMS < wide(table[CONSTANTS]) + wide(table[RESTRICTIONS]) {
-        return Step::Stop(Answer::OverBound(RESTRICTIONS));
-    }
-    if MAX_LINES < table[LINES] {
-        return Step::Stop(Answer::OverBound(LINES));
-    }
-    Step::Next(HEADER)
+    read_counts(header_of(table))
 }
 
-// The restriction row that begins at the byte `at`.
-fn read_row(table: &[u8], at: usize) -> Step
-    requires { ⌜ 10 ≤ length (now table) ⌝ }
-    ensures { λ r. ⌜ r ≡ stepOf (readRow (now (table .entry)) (headerOf (now (table .entry))) at) ⌝ }
+// The restriction row that begins at the byte `at`, where these counts are declared.
+fn read_row(table: &[u8], header: Header, at: usize) -> Step
+    ensures { λ r. ⌜ r ≡ stepOf (readRow (now (table .entry)) header at) ⌝ }
 {
     if table.len() <= at {
         return Step::Stop(Answer::EndsEarly(table.len()));
     }
-    if table[ROLES] <= table[at] {
+    if header.r <= table[at] {
         return Step::Stop(Answer::NotAllowed(at));
     }
     if table.len() <= at + 1 {
         return Step::Stop(Answer::EndsEarly(table.len()));
     }
-    if !filler_ok(table[at + 1], table[CONSTANTS], table[VARIABLES]) {
+    if !filler_ok(table[at + 1], header) {
         return Step::Stop(Answer::NotAllowed(at + 1));
     }
     Step::Next(at + 2)
 }
 
 // `count` rows from the byte `from` on.
-fn read_rows(table: &[u8], count: usize, from: usize) -> Step
-    requires { ⌜ 10 ≤ length (now table) ⌝ }
-    ensures { λ r. ⌜ r ≡ stepOf (readRows (now (table .entry)) (headerOf (now (table .entry))) count from) ⌝ }
+fn read_rows(table: &[u8], header: Header, count: usize, from: usize) -> Step
+    ensures { λ r. ⌜ r ≡ stepOf (readRows (now (table .entry)) header count from) ⌝ }
 {
     let mut at = from;
     let mut k = 0;
     while k < count {
-        match read_row(table, at) {
+        match read_row(table, header, at) {
             Step::Next(next) => {
                 at = next;
             }
@@ -189,33 +212,26 @@ fn read_rows(table: &[u8], count: usize, from: usize) -> Step
 }
 
 // The entry at the byte `at`.
-fn read_entry(table: &[u8], at: usize) -> Step
-    requires { ⌜ 10 ≤ length (now table) ⌝ }
-    ensures { λ r. ⌜ r ≡ stepOf (readEntry (now (table .entry)) (headerOf (now (table .entry))) at) ⌝ }
+fn read_entry(table: &[u8], header: Header, at: usize) -> Step
+    ensures { λ r. ⌜ r ≡ stepOf (readEntry (now (table .entry)) header at) ⌝ }
 {
     if table.len() <= at {
         return Step::Stop(Answer::EndsEarly(table.len()));
     }
-    if !entry_ok(
-        table[at],
-        table[CONSTANTS],
-        table[RESTRICTIONS],
-        table[VARIABLES],
-    ) {
+    if !entry_ok(table[at], header) {
         return Step::Stop(Answer::NotAllowed(at));
     }
     Step::Next(at + 1)
 }
 
 // `count` entries from the byte `from` on.
-fn read_entries(table: &[u8], count: usize, from: usize) -> Step
-    requires { ⌜ 10 ≤ length (now table) ⌝ }
-    ensures { λ r. ⌜ r ≡ stepOf (readEntries (now (table .entry)) (headerOf (now (table .entry))) count from) ⌝ }
+fn read_entries(table: &[u8], header: Header, count: usize, from: usize) -> Step
+    ensures { λ r. ⌜ r ≡ stepOf (readEntries (now (table .entry)) header count from) ⌝ }
 {
     let mut at = from;
     let mut i = 0;
     while i < count {
-        match read_entry(table, at) {
+        match read_entry(table, header, at) {
             Step::Next(next) => {
                 at = next;
             }
@@ -229,9 +245,8 @@ fn read_entries(table: &[u8], count: usize, from: usize) -> Step
 }
 
 // The line that begins at the byte `at`: an over-large left count is refused before its entries are read.
-fn read_line(table: &[u8], at: usize) -> Step
-    requires { ⌜ 10 ≤ length (now table) ⌝ }
-    ensures { λ r. ⌜ r ≡ stepOf (readLine (now (table .entry)) (headerOf (now (table .entry))) at) ⌝ }
+fn read_line(table: &[u8], header: Header, at: usize) -> Step
+    ensures { λ r. ⌜ r ≡ stepOf (readLine bounds (now (table .entry)) header at) ⌝ }
 {
     if table.len() <= at {
         return Step::Stop(Answer::EndsEarly(table.len()));
@@ -240,21 +255,20 @@ fn read_line(table: &[u8], at: usize) -> Step
     if MAX_LEFT < p {
         return Step::Stop(Answer::OverBound(at));
     }
-    match read_entries(table, p, at + 1) {
-        Step::Next(next) => read_entry(table, next),
+    match read_entries(table, header, p, at + 1) {
+        Step::Next(next) => read_entry(table, header, next),
         Step::Stop(why) => Step::Stop(why),
     }
 }
 
 // `count` lines from the byte `from` on.
-fn read_lines(table: &[u8], count: usize, from: usize) -> Step
-    requires { ⌜ 10 ≤ length (now table) ⌝ }
-    ensures { λ r. ⌜ r ≡ stepOf (readLines (now (table .entry)) (headerOf (now (table .entry))) count from) ⌝ }
+fn read_lines(table: &[u8], header: Header, count: usize, from: usize) -> Step
+    ensures { λ r. ⌜ r ≡ stepOf (readLines bounds (now (table .entry)) header count from) ⌝ }
 {
     let mut at = from;
     let mut n = 0;
     while n < count {
-        match read_line(table, at) {
+        match read_line(table, header, at) {
             Step::Next(next) => {
                 at = next;
             }
@@ -268,12 +282,11 @@ fn read_lines(table: &[u8], count: usize, from: usize) -> Step
 }
 
 // The rows and the lines, and nothing after them.
-fn read_body(table: &[u8]) -> Step
-    requires { ⌜ 10 ≤ length (now table) ⌝ }
-    ensures { λ r. ⌜ r ≡ stepOf (readBody (now (table .entry)) (headerOf (now (table .entry)))) ⌝ }
+fn read_body(table: &[u8], header: Header) -> Step
+    ensures { λ r. ⌜ r ≡ stepOf (readBody bounds (now (table .entry)) header) ⌝ }
 {
-    match read_rows(table, wide(table[RESTRICTIONS]), HEADER) {
-        Step::Next(next) => match read_lines(table, wide(table[LINES]), next) {
+    match read_rows(table, header, wide(header.e), HEADER) {
+        Step::Next(next) => match read_lines(table, header, wide(header.m), next) {
             Step::Next(end) => {
                 if end < table.len() {
                     return Step::Stop(Answer::BytesAfter(end));
@@ -291,7 +304,7 @@ pub fn check(table: &[u8]) -> Verdict
     ensures { λ r. ⌜ r ≡ verdictOf (reading (now (table .entry))) ⌝ }
 {
     match read_header(table) {
-        Step::Next(_) => match read_body(table) {
+        Step::Next(_) => match read_body(table, header_of(table)) {
             Step::Next(_) => Verdict::Readable,
             Step::Stop(why) => Verdict::Refused(why),
         },

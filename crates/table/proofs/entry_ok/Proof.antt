@@ -1,26 +1,15 @@
--- `table::entry_ok` meets its contract: a law for each kind.
+-- `table::entry_ok` meets its contract: by the kind of the code.
 use mathlib.Core.Path.{sym, _∙_}
 use borrow.Author.Needs.{needs}
-use Rattle.table.proofs.Laws.{entry-top, entry-constant, entry-restriction, entry-variable, entry-other}
+use Rattle.table.specs.declared.Kind.the-variants.{Top, Constant, Restriction, Variable, Other}
+use Rattle.table.specs.Code.{entryOfKind}
+use Rattle.table.specs.Step.{isSome}
+use Rattle.table.proofs.Laws.{some-within, entry-by}
 use Rattle.table.proofs.entry_ok.Statement.{statement}
 use Rattle.table.proofs.entry_ok.Tie as tie
 
-returns : tie.Need-returns
-returns c = entry-top _ _ _ _ (sym (c .before .before .kind-of .ensures) ∙ c .enum-told .given .1)
-
-returns-2 : tie.Need-returns-2
-returns-2 c = entry-constant _ _ _ _ _ (sym (c .before .before .before .kind-of .ensures) ∙ c .before .k .given .1)
-
-returns-3 : tie.Need-returns-3
-returns-3 c = entry-restriction _ _ _ _ _ (sym (c .before .before .before .kind-of .ensures) ∙ c .before .k2 .given .1)
-
-returns-4 : tie.Need-returns-4
-returns-4 c = entry-variable _ _ _ _ _ (sym (c .before .before .before .kind-of .ensures) ∙ c .before .k3 .given .1)
-
-returns-5 : tie.Need-returns-5
-returns-5 c = entry-other _ _ _ _ (sym (c .before .before .kind-of .ensures) ∙ c .enum-told2 .given .1)
-
 pub entry-ok-spec : {M : Type 1} → statement M
+unfolding entryOfKind isSome
 entry-ok-spec =
     tie.close
     (tie.spec
@@ -30,8 +19,8 @@ entry-ok-spec =
     (λ c. search needs)
     (λ c. search needs)
     (λ c. search needs)
-    returns
-    returns-2
-    returns-3
-    returns-4
-    returns-5)
+    (λ c. entry-by _ _ _ _ Top (sym (c .before .before .kind-of .ensures) ∙ c .enum-told .given .1))
+    (λ c. some-within _ _ _ ∙ entry-by _ _ _ _ (Constant _) (sym (c .before .before .before .before .kind-of .ensures) ∙ c .before .before .k .given .1))
+    (λ c. some-within _ _ _ ∙ entry-by _ _ _ _ (Restriction _) (sym (c .before .before .before .before .kind-of .ensures) ∙ c .before .before .k2 .given .1))
+    (λ c. some-within _ _ _ ∙ entry-by _ _ _ _ (Variable _) (sym (c .before .before .before .before .kind-of .ensures) ∙ c .before .before .k3 .given .1))
+    (λ c. entry-by _ _ _ _ Other (sym (c .before .before .kind-of .ensures) ∙ c .enum-told2 .given .1)))

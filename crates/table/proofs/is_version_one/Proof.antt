@@ -5,12 +5,5 @@ use Rattle.table.proofs.Laws.{version-0, version-1}
 use Rattle.table.proofs.is_version_one.Statement.{statement}
 use Rattle.table.proofs.is_version_one.Tie as tie
 
-returns : tie.Need-returns
-returns c = version-1 _ (omega arith)
-
-returns-2 : tie.Need-returns-2
-returns-2 c = version-0 _ (omega arith)
-
 pub is-version-one-spec : {M : Type 1} → statement M
-is-version-one-spec =
-    tie.close (tie.spec (λ c. search needs) (λ c. search needs) returns returns-2)
+is-version-one-spec = tie.close (tie.spec (λ c. search needs) (λ c. search needs) (λ c. version-1 _ (omega arith)) (λ c. version-0 _ (omega arith)))

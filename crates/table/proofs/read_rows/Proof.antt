@@ -3,42 +3,27 @@
 use mathlib.Core.Path.{_≡_, sym, _∙_}
 use Prim.Native.Nat.{_-_, _≤_}
 use native.Mathlib.Omega.{arith}
-use Rattle.table.specs.Reading.{headerOf, readRows}
+use Rattle.table.specs.Reading.{readRows}
 use Rattle.table.specs.Step.{stepOf}
 use Rattle.table.proofs.Laws.{turn-start, turn-end, turn-stop, turn-next}
 use Rattle.table.proofs.read_rows.Statement.{statement}
 use Rattle.table.proofs.read_rows.Tie as tie
 
 abbrev Inv-loop : tie.InvT-loop
-Inv-loop table count from at₀ k₀ at k = (k ≤ count) × (stepOf (readRows table (headerOf table) count from) ≡ stepOf (readRows table (headerOf table) (count - k) at))
-
-abbrev μ-loop : tie.MeasureT-loop
-μ-loop table count from at₀ k₀ at k = count - k
-
-loop-holds : tie.Need-loop-holds Inv-loop μ-loop
-loop-holds c = (omega arith, turn-start _ _ _)
-
-returns : tie.Need-returns Inv-loop μ-loop
-returns c = sym (c .before .before .before .before .before .loop .inv .1 ∙ turn-stop _ _ _ _ _ (omega arith) (sym (c .before .before .before .read-row .ensures) ∙ c .before .why .given .1))
-
-loop-again : tie.Need-loop-again Inv-loop μ-loop
-loop-again c = (omega arith, c .before .before .before .before .before .loop .inv .1 ∙ turn-next _ _ _ _ _ (omega arith) (sym (c .before .before .before .read-row .ensures) ∙ c .before .next .given .1))
-
-returns-2 : tie.Need-returns-2 Inv-loop μ-loop
-returns-2 c = sym (c .before .loop .inv .1 ∙ turn-end _ _ _ _ (omega arith))
+Inv-loop table header count from at₀ k₀ at k = (k ≤ count) × (stepOf (readRows table header count from) ≡ stepOf (readRows table header (count - k) at))
 
 pub read-rows-spec : {M : Type 1} → statement M
 read-rows-spec =
     tie.close
     (tie.spec
     Inv-loop
-    μ-loop
-    loop-holds
+    (λ table header count from at₀ k₀ at k. count - k)
+    (λ c. (omega arith, turn-start _ _ _))
     (λ c κs. omega arith)
     (λ c. c .match .keys1)
     (λ c. c .match .keys2)
-    returns
+    (λ c. sym (c .before .before .before .before .before .loop .inv .1 ∙ turn-stop _ _ _ _ (omega arith) _ (sym (c .before .before .before .read-row .ensures) ∙ c .before .why .given .1)))
     (λ c. omega arith)
     (λ c. omega arith)
-    loop-again
-    returns-2)
+    (λ c. (omega arith, c .before .before .before .before .before .loop .inv .1 ∙ turn-next _ _ _ _ (omega arith) _ (sym (c .before .before .before .read-row .ensures) ∙ c .before .next .given .1)))
+    (λ c. sym (c .before .loop .inv .1 ∙ turn-end _ _ _ _ (omega arith))))

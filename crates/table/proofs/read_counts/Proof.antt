@@ -1,0 +1,28 @@
+-- `table::read_counts` meets its contract: a law for counts over their bounds, by the first of them, and one for counts within.
+use native.Mathlib.Omega.{arith}
+use borrow.Author.Needs.{needs}
+use mathlib.Core.Path.{sym, ap}
+use Rattle.bounds.specs.Bounds.{bounds}
+use Rattle.table.specs.Refusal.{over-roles, over-variables, over-atoms, over-lines}
+use Rattle.table.specs.RefusalLaws.{counts-over}
+use Rattle.table.specs.ReadLaws.{counts-within}
+use Rattle.table.specs.Step.{stepOf}
+use Rattle.table.proofs.Laws.{stops}
+use Rattle.table.proofs.read_counts.Statement.{statement}
+use Rattle.table.proofs.read_counts.Tie as tie
+
+pub read-counts-spec : {M : Type 1} → statement M
+unfolding stepOf
+read-counts-spec =
+    tie.close
+    (tie.spec
+    (λ c. stops (counts-over _ (over-roles (omega arith))))
+    (λ c κs. search needs)
+    (λ c. stops (counts-over _ (over-variables (omega arith) (omega arith))))
+    (λ c κs. search needs)
+    (λ c κs. search needs)
+    (λ c. search needs)
+    (λ c. stops (counts-over _ (over-atoms (omega arith) (omega arith) (omega arith))))
+    (λ c κs. search needs)
+    (λ c. stops (counts-over _ (over-lines (omega arith) (omega arith) (omega arith) (omega arith))))
+    (λ c. ap stepOf (sym (counts-within bounds _ (record { few-roles = omega arith; few-variables = omega arith; few-atoms = omega arith; few-lines = omega arith })))))

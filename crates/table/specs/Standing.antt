@@ -1,0 +1,72 @@
+-- What was read, and where it stands.
+--
+--   Many one l at end  == the things l were read by `one` from `at` on, and `end` is the place after them
+--   along next at n    == the place after n steps of `next` from `at` on
+--   Stands s at bytes end == the bytes stand at `at`, and `end` is the place after them
+--   First s good at    == the bytes `good` stand first, and `at` is the place after them
+--   RowRead s h at row end, LineRead b s h at l end == the row, the line was read at `at`, and `end` is the place after it
+--   HeaderRead b s h   == the header h was read: it is that of s, with a right mark and version, and within the bounds b
+--   BodyRead b s h t   == the rows and lines of the table t were read behind the header, and nothing follows
+use mathlib.Core.Path.{_≡_}
+use mathlib.Core.Bool.{true}
+use mathlib.Core.List.{List, [], _∷_, _++_}
+use mathlib.Core.Option.{some}
+use Prim.Native.Nat.{ℕ, zero, suc, _+_, _≤_, _<_}
+use lib.ListN.{length, drop}
+use Rattle.el.specs.Table.{Row, Line, Table}
+use Rattle.bounds.specs.Bounds.{Bounds}
+use Rattle.table.specs.declared.Header.{Header}
+use Rattle.table.specs.Code.{fillerOf}
+use Rattle.table.specs.Reading.{Read, got, byteAt, headerLength, headerOf, rowsAt, marked, versionOne, readRow, readEntry, readLine, tableWith}
+use Rattle.table.specs.Bytes.{Within}
+
+abbrev pub Many : {A : Type 0} → (ℕ → Read A) → List A → ℕ → ℕ → Type 0
+Many one [] at end = at ≡ end
+Many one (a ∷ l) at end = (mid : ℕ) × (one at ≡ got a mid) × Many one l mid end
+
+unfoldable pub along : (ℕ → ℕ) → ℕ → ℕ → ℕ
+along next at zero = at
+along next at (suc n) = next (along next at n)
+
+module _ (s : List ℕ) where
+  abbrev pub Stands : ℕ → List ℕ → ℕ → Type 0
+  Stands at bytes end = (drop at s ≡ bytes ++ drop end s) × (end ≡ at + length bytes)
+
+  abbrev pub First : List ℕ → ℕ → Type 0
+  First good at = (s ≡ good ++ drop at s) × (at ≡ length good)
+
+module _ (s : List ℕ) (h : Header) where
+  pub record RowRead (at : ℕ) (row : Row) (end : ℕ) : Type 0 where
+    pub inside : at + 1 < length s
+    pub role : row .role ≡ byteAt s at
+    pub role-less : byteAt s at < h .r
+    pub filler : fillerOf (h .c) (h .v) (byteAt s (at + 1)) ≡ some (row .filler)
+    pub next : end ≡ at + 2
+
+module _ (b : Bounds) (s : List ℕ) (h : Header) where
+  pub record LineRead (at : ℕ) (l : Line) (end : ℕ) : Type 0 where
+    pub inside : at < length s
+    pub few : byteAt s at ≤ b .left
+    pub left-many : length (l .left) ≡ byteAt s at
+    pub mid : ℕ
+    pub left-read : Many (readEntry s h) (l .left) (at + 1) mid
+    pub right-read : readEntry s h mid ≡ got (l .right) end
+
+  pub record HeaderRead : Type 0 where
+    pub same : h ≡ headerOf s
+    pub inside : headerLength ≤ length s
+    pub mark : marked s ≡ true
+    pub version : versionOne s ≡ true
+    pub counts : Within b h
+
+  pub record BodyRead (t : Table) : Type 0 where
+    pub rows : List Row
+    pub lines : List Line
+    pub mid : ℕ
+    pub end : ℕ
+    pub same : t ≡ tableWith h rows lines
+    pub all-rows : length rows ≡ h .e
+    pub all-lines : length lines ≡ h .m
+    pub rows-read : Many (readRow s h) rows (rowsAt s) mid
+    pub lines-read : Many (readLine b s h) lines mid end
+    pub nothing-left : length s ≤ end

@@ -23,7 +23,6 @@ use Rattle.answer.specs.declared.Answer.the-variants.{NotAllowed, BytesAfter}
 use Rattle.bounds.specs.Bounds.{bounds, maxLeft}
 use Rattle.table.specs.declared.Kind.{Kind}
 use Rattle.table.specs.declared.Header.{Header}
-use Rattle.table.specs.declared.Step.{Step}
 use Rattle.table.specs.declared.Step.the-variants.{Next, Stop}
 use Rattle.table.specs.declared.Verdict.the-variants.{Refused, Readable}
 use Rattle.table.specs.Code.{kindOf, within, fillerOfKind, fillerOf, entryOfKind, entryOf}
@@ -69,12 +68,12 @@ next-code at (some a) e = refl
 next-stop : (at : ℕ) (why : Answer) → Next at ≡ Stop why → ⊥
 next-stop at why q = let z : _≡_ {A = ℕ} 0 1 = cc in omega arith
 
-pub step-refused : {A : Type 0} (x : Read A) (why : Answer) → stepOf x ≡ Stop why → x ≡ refused why
+step-refused : {A : Type 0} (x : Read A) (why : Answer) → stepOf x ≡ Stop why → x ≡ refused why
 unfolding stepOf
 step-refused (refused was) why e = let a : was ≡ why = cc in ap refused a
 step-refused (got a at) why e = absurd (next-stop at why e)
 
-pub step-got : {A : Type 0} (x : Read A) (at : ℕ) → stepOf x ≡ Next at → (a : A) × (x ≡ got a at)
+step-got : {A : Type 0} (x : Read A) (at : ℕ) → stepOf x ≡ Next at → (a : A) × (x ≡ got a at)
 unfolding stepOf
 step-got (refused why) at e = absurd (next-stop at why (sym e))
 step-got (got a end) at e = let w : end ≡ at = cc in (a, ap (got a) w)

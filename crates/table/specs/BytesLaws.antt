@@ -6,7 +6,7 @@
 --   readable-is-written         == A READABLE INPUT IS THE BYTES OF ITS TABLE, which fits
 --   written-is-readable         == THE BYTES OF A TABLE THAT FITS ARE READ AS THAT TABLE
 --   readable-exactly            == both; table-read, a readable table is read so
-use mathlib.Core.Path.{_≡_, refl, sym, ap, ap₂, subst, _∙_}
+use mathlib.Core.Path.{_≡_, refl, sym, ap, subst, _∙_}
 use mathlib.Core.Logic.{_↔_}
 use mathlib.Core.List.{List, [], _∷_, _++_, flatMap, append-assoc, append-nil}
 use Prim.Native.Nat.{ℕ, _+_, _≤_, _<_}
@@ -16,14 +16,14 @@ use lib.ListN.{length, drop, length-append, drop-of-length-le}
 use lib.Seq.{drop-append-seam}
 use Rattle.el.specs.Test.{everyOf}
 use Rattle.el.specs.Table.{Row, Line, Table, rowDeclared}
-use Rattle.bounds.specs.Bounds.{bounds, maxAtoms}
+use Rattle.bounds.specs.Bounds.{bounds}
 use Rattle.table.specs.declared.Header.{Header}
-use Rattle.table.specs.Reading.{byteAt, headerLength, rowsAt, readRow, readLine, tableWith, Reading, readable, reading}
+use Rattle.table.specs.Reading.{byteAt, headerLength, rowsAt, readRow, readLine, tableWith, readable, reading}
 use Rattle.table.specs.Bytes.{writtenHeader, writtenRow, writtenLine, bytesWith, countsOf, bytesOf, lineRight, Right, Fits, IsTable}
 use Rattle.table.specs.Standing.{Many, Stands, First, HeaderRead}
 use Rattle.table.specs.ManyLaws.{stands-then, drop-behind, many-written, many-read}
 use Rattle.table.specs.ReadLaws.{readable-read, readable-all}
-use Rattle.table.specs.StandsLaws.{byte-here, row-stands, row-is, line-stands, line-is, header-stands, header-is}
+use Rattle.table.specs.StandsLaws.{byte-here, row-stands, row-is, line-stands, line-is, header-first, first-header}
 
 ------------------------------------------------------------------ what stands first
 
@@ -53,7 +53,7 @@ module _ (s : List ℕ) (h : Header) (read : HeaderRead bounds s h) (rows : List
   unfolding bytesWith
   with-lines lines end st =
       let r = many-written s (readRow s h) writtenRow (rowDeclared (tableWith h rows lines)) (row-stands s h rows lines) rows (rowsAt s) mid there in (
-        first-then s (writtenHeader h) (flatMap writtenRow rows ++ flatMap writtenLine lines) (rowsAt s) end (header-stands s h read)
+        first-then s (writtenHeader h) (flatMap writtenRow rows ++ flatMap writtenLine lines) (rowsAt s) end (header-first s h read)
             (stands-then s (rowsAt s) mid end (flatMap writtenRow rows) (flatMap writtenLine lines) (r .0) (st .0)),
         record { counts = read .counts; rows-right = r .1; lines-right = st .1 },
       )
@@ -84,10 +84,6 @@ readable-is-written s h t q =
 ------------------------------------------------------------------ bytes that begin right
 
 module _ (s : List ℕ) (h : Header) (rows : List Row) (lines : List Line) (tail : List ℕ) (right : Right h rows lines) (is : s ≡ bytesWith h rows lines ++ tail) where
-  -- the place after the rows
-  abbrev pub rowsEnd : ℕ
-  rowsEnd = headerLength + length (flatMap writtenRow rows)
-
   begins : s ≡ writtenHeader h ++ (flatMap writtenRow rows ++ (flatMap writtenLine lines ++ tail))
   unfolding bytesWith
   begins =
@@ -95,28 +91,28 @@ module _ (s : List ℕ) (h : Header) (rows : List Row) (lines : List Line) (tail
       ∙ ap (λ (l : List ℕ). writtenHeader h ++ l) (append-assoc (flatMap writtenRow rows) (flatMap writtenLine lines) tail)
 
   pub header-there : HeaderRead bounds s h
-  header-there = subst (λ (x : List ℕ). HeaderRead bounds x h) (sym begins) (header-is h (flatMap writtenRow rows ++ (flatMap writtenLine lines ++ tail)) (right .counts))
+  header-there = subst (λ (x : List ℕ). HeaderRead bounds x h) (sym begins) (first-header h (flatMap writtenRow rows ++ (flatMap writtenLine lines ++ tail)) (right .counts))
 
   behind-header : drop headerLength s ≡ flatMap writtenRow rows ++ (flatMap writtenLine lines ++ tail)
   unfolding writtenHeader
   behind-header = ap (drop headerLength) begins
 
-  pub rows-first : Many (readRow s h) rows (rowsAt s) rowsEnd
+  pub rows-first : Many (readRow s h) rows (rowsAt s) (headerLength + length (flatMap writtenRow rows))
   rows-first =
       many-read s (readRow s h) writtenRow (rowDeclared (tableWith h rows lines)) (row-is s h rows lines (let w = right .counts .few-atoms in omega arith)) rows headerLength
       (flatMap writtenLine lines ++ tail) (right .rows-right) behind-header
 
-  pub lines-end : rowsEnd + length (flatMap writtenLine lines) ≡ length (bytesWith h rows lines)
+  pub lines-end : headerLength + length (flatMap writtenRow rows) + length (flatMap writtenLine lines) ≡ length (bytesWith h rows lines)
   unfolding bytesWith writtenHeader
   lines-end =
       let a : length (flatMap writtenRow rows ++ flatMap writtenLine lines) ≡ length (flatMap writtenRow rows) + length (flatMap writtenLine lines) = length-append (flatMap writtenRow rows) (flatMap writtenLine lines) in
       omega arith
 
-  pub lines-next : length rows ≡ h .e → Many (readLine bounds s h) lines rowsEnd (length (bytesWith h rows lines))
+  pub lines-next : length rows ≡ h .e → Many (readLine bounds s h) lines (headerLength + length (flatMap writtenRow rows)) (length (bytesWith h rows lines))
   lines-next all =
       let w = right .counts .few-atoms in
-      subst (Many (readLine bounds s h) lines rowsEnd) lines-end
-      (many-read s (readLine bounds s h) writtenLine (lineRight (tableWith h rows lines)) (line-is s h rows lines all (omega arith) (omega arith)) lines rowsEnd tail (right .lines-right)
+      subst (Many (readLine bounds s h) lines (headerLength + length (flatMap writtenRow rows))) lines-end
+      (many-read s (readLine bounds s h) writtenLine (lineRight (tableWith h rows lines)) (line-is s h rows lines all (omega arith) (omega arith)) lines (headerLength + length (flatMap writtenRow rows)) tail (right .lines-right)
       (drop-behind s headerLength (flatMap writtenRow rows) (flatMap writtenLine lines ++ tail) behind-header))
 
 -- THE BYTES OF A TABLE THAT FITS ARE READ AS THAT TABLE

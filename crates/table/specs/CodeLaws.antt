@@ -8,7 +8,7 @@
 --   filler-is, entry-is     == a declared one is written by its code
 use mathlib.Core.Path.{_≡_, refl, sym, ap, subst, _∙_}
 use mathlib.Core.Bool.{Bool, true, false, cond}
-use mathlib.Core.Option.{Option, none, some, Option·none-ne-some}
+use mathlib.Core.Option.{none, some, Option·none-ne-some}
 use Prim.Native.Nat.{ℕ, _+_, _-_, _≤_, _<_}
 use native.Mathlib.Omega.{arith}
 use native.Mathlib.Decide.{decLe, ℕ-discrete}
@@ -29,32 +29,21 @@ module _ (b : ℕ) where
 
   pub kind-constant : 0x20 ≤ b → b ≤ 0x3F → Constant (b - 0x20) ≡ kindOf b
   unfolding kindOf
-  kind-constant h l = let n : b ≡ 0 → ⊥ = omega arith in simp (ne-eqb b 0 n, le-leb 0x20 b h, le-leb b 0x3F l)
+  kind-constant h l = simp (ne-eqb b 0 (λ z. omega arith), le-leb 0x20 b h, le-leb b 0x3F l)
 
   pub kind-restriction : 0x40 ≤ b → b ≤ 0x5F → Restriction (b - 0x40) ≡ kindOf b
   unfolding kindOf
-  kind-restriction h l =
-      let n : b ≡ 0 → ⊥ = omega arith in
-      let m : 0x20 ≤ b = omega arith in
-      let k : 0x3F < b = omega arith in
-      simp (ne-eqb b 0 n, le-leb 0x20 b m, lt-leb b 0x3F k, le-leb 0x40 b h, le-leb b 0x5F l)
+  kind-restriction h l = simp (ne-eqb b 0 (λ z. omega arith), le-leb 0x20 b (omega arith), lt-leb b 0x3F (omega arith), le-leb 0x40 b h, le-leb b 0x5F l)
 
   pub kind-variable : 0x60 ≤ b → Variable (b - 0x60) ≡ kindOf b
   unfolding kindOf
   kind-variable h =
-      let n : b ≡ 0 → ⊥ = omega arith in
-      let i : 0x20 ≤ b = omega arith in
-      let j : 0x3F < b = omega arith in
-      let k : 0x40 ≤ b = omega arith in
-      let m : 0x5F < b = omega arith in
-      simp (ne-eqb b 0 n, le-leb 0x20 b i, lt-leb b 0x3F j, le-leb 0x40 b k, lt-leb b 0x5F m, le-leb 0x60 b h)
+      simp
+      (ne-eqb b 0 (λ z. omega arith), le-leb 0x20 b (omega arith), lt-leb b 0x3F (omega arith), le-leb 0x40 b (omega arith), lt-leb b 0x5F (omega arith), le-leb 0x60 b h)
 
   pub kind-other : (b ≡ 0 → ⊥) → b < 0x20 → Other ≡ kindOf b
   unfolding kindOf
-  kind-other n h =
-      let k : b < 0x40 = omega arith in
-      let m : b < 0x60 = omega arith in
-      simp (ne-eqb b 0 n, lt-leb 0x20 b h, lt-leb 0x40 b k, lt-leb 0x60 b m)
+  kind-other n h = simp (ne-eqb b 0 n, lt-leb 0x20 b h, lt-leb 0x40 b (omega arith), lt-leb 0x60 b (omega arith))
 
 ------------------------------------------------------------------ the code of a kind
 

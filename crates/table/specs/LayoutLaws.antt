@@ -16,7 +16,7 @@ use lib.Dec.{T, leb}
 use lib.ListN.{length, getD}
 use Rattle.el.specs.Test.{everyOf}
 use Rattle.el.specs.TestLaws.{and-make, and-right, everyOf-both}
-use Rattle.el.specs.Table.{topF, Entry, constant, Row, Line, Table, rowAt, rowDeclared, lineDeclared, declared}
+use Rattle.el.specs.Table.{topF, constant, Line, Table, rowAt, rowDeclared, lineDeclared, declared}
 use Rattle.answer.specs.declared.Answer.{Answer}
 use Rattle.bounds.specs.Bounds.{bounds, maxLeft}
 use Rattle.table.specs.declared.Header.{Header}
@@ -24,7 +24,7 @@ use Rattle.table.specs.declared.Verdict.the-variants.{Refused, Readable}
 use Rattle.table.specs.Code.{fillerOf, entryOf}
 use Rattle.table.specs.Reading.{got, byteAt, headerOf, rowsAt, rowStart, fillerPlace, readRow, readEntry, readLine, tableWith, Reading, refusal, readable, reading, theTable, tableOf, isReadable}
 use Rattle.table.specs.Bytes.{bytesWith, lineRight}
-use Rattle.table.specs.Standing.{Many, along, RowRead, LineRead, HeaderRead, BodyRead}
+use Rattle.table.specs.Standing.{along, RowRead, LineRead, HeaderRead, BodyRead}
 use Rattle.table.specs.ManyLaws.{many-each}
 use Rattle.table.specs.ReadLaws.{row-read, entry-read, line-read, readable-read}
 use Rattle.table.specs.BytesLaws.{first-all, lines-there}

@@ -6,13 +6,12 @@
 --   longest-reached == one has them
 --   first-bytes    == THE FIRST 699 BYTES OF AN INPUT ARE READ AS THE WHOLE INPUT IS
 use mathlib.Core.Path.{_≡_, refl, sym, ap, subst, _∙_}
-use mathlib.Core.Bool.{Bool, true, false, not}
 use mathlib.Core.List.{List, [], _∷_, _++_, flatMap}
-use Prim.Native.Nat.{ℕ, zero, suc, _+_, _*_, _-_, _≤_, _<_}
+use Prim.Native.Nat.{ℕ, suc, _+_, _*_, _-_, _≤_, _<_}
 use native.Mathlib.Omega.{arith}
 use native.Mathlib.Decide.{decLe}
 use lib.Dec.{T, leb, leb→le}
-use lib.ListN.{length, take, getD, length-append, length-take}
+use lib.ListN.{length, take, length-append}
 use lib.Seq.{take-all, length-take-le, getD-take, take-append-add}
 use Rattle.el.specs.Test.{everyOf}
 use Rattle.el.specs.TestLaws.{and-left, and-right}
@@ -20,9 +19,9 @@ use Rattle.el.specs.Table.{Entry, Row, Line, Table, lineDeclared}
 use Rattle.bounds.specs.Bounds.{maxAtoms, maxLines, maxLeft}
 use Rattle.answer.specs.declared.Answer.{Answer}
 use Rattle.table.specs.declared.Header.{Header}
-use Rattle.table.specs.Reading.{byteAt, constantsPlace, rolesPlace, variablesPlace, restrictionsPlace, linesPlace, headerLength, headerOf, marked, versionOne, tableWith, Reading, refusal, readable, reading, tableOf, isReadable}
-use Rattle.table.specs.Bytes.{fillerCode, entryCode, writtenHeader, writtenRow, writtenEntry, writtenLine, bytesWith, countsOf, bytesOf, lineRight, Right, Fits, longestLine, longestLength, enoughLength, longestTable}
-use Rattle.table.specs.BytesLaws.{readable-is-written, written-is-readable}
+use Rattle.table.specs.Reading.{byteAt, constantsPlace, rolesPlace, variablesPlace, restrictionsPlace, linesPlace, headerLength, headerOf, marked, versionOne, tableWith, Reading, refusal, readable, reading, isReadable}
+use Rattle.table.specs.Bytes.{writtenHeader, writtenRow, writtenEntry, writtenLine, bytesWith, countsOf, bytesOf, lineRight, Right, Fits, longestLine, longestLength, enoughLength, longestTable}
+use Rattle.table.specs.BytesLaws.{readable-is-written}
 use Rattle.table.specs.Refusal.{Slot, aRole, aFiller, aCount, anEntry, nothing, Begins, Over, RefusedAt, header-cut, wrong-mark, wrong-version, over-bound, over-left, ends-early, not-allowed, bytes-after}
 use Rattle.table.specs.RefusalLaws.{refused-means, means-refusal}
 

@@ -1,10 +1,9 @@
 -- Laws of what is read one after the other.
 --
---   refused-got, got-same        == a refusal is not something read, and two readings of one thing are equal
+--   got-same                     == two readings of one thing are equal
 --   if-passed, if-refused        == past a refusal, and where it is
 --   refuse-got, then-got, or-got == what is known where something was read past a refusal, in two steps, from a code
---   Means P x          == where x is a refusal, P holds of it
---   means-got, means-if, means-or, means-then, means-many == of each way to read
+--   means-got, means-if, means-or, means-then, means-many == where each way to read is a refusal, P holds of it
 --   many-got           == as many as were asked for
 --   many-whole, many-stopped == what `readMany` answers, the other way round
 --   many-each          == where each stands, and where they end
@@ -24,9 +23,9 @@ use Rattle.el.specs.TestLaws.{and-make, and-left, and-right}
 use Rattle.answer.specs.declared.Answer.{Answer}
 use Rattle.answer.specs.declared.Answer.the-variants.{NotAllowed}
 use Rattle.table.specs.Reading.{Read, refused, got, refuseIf, andThen, orRefused, readMany}
-use Rattle.table.specs.Standing.{Many, along, Stands}
+use Rattle.table.specs.Standing.{Means, Many, along, Stands}
 
-pub refused-got : {A : Type 0} (why : Answer) (a : A) (end : ℕ) → refused why ≡ got a end → ⊥
+refused-got : {A : Type 0} (why : Answer) (a : A) (end : ℕ) → refused why ≡ got a end → ⊥
 refused-got why a end q = let z : _≡_ {A = ℕ} 0 1 = cc in omega arith
 
 pub got-same : {A : Type 0} (a b : A) (m n : ℕ) → got a m ≡ got b n → (a ≡ b) × (m ≡ n)
@@ -53,29 +52,25 @@ or-got at (some b) a end q = (cc, cc)
 ------------------------------------------------------------------ refusals
 
 module _ (P : Answer → Type 0) where
-  -- where x is a refusal, P holds of it
-  abbrev pub Means : {A : Type 0} → Read A → Type 0
-  Means x = (why : Answer) → x ≡ refused why → P why
-
-  pub means-got : {A : Type 0} (a : A) (at : ℕ) → Means (got a at)
+  pub means-got : {A : Type 0} (a : A) (at : ℕ) → Means P (got a at)
   means-got a at why q = absurd (refused-got why a at (sym q))
 
-  means-refused : {A : Type 0} (was : Answer) → P was → Means {A = A} (refused was)
+  means-refused : {A : Type 0} (was : Answer) → P was → Means P {A = A} (refused was)
   means-refused was r why q = let a : was ≡ why = cc in subst P a r
 
-  pub means-if : {A : Type 0} (t : Bool) (was : Answer) (x : Read A) → (t ≡ true → P was) → (t ≡ false → Means x) → Means (refuseIf t was x)
+  pub means-if : {A : Type 0} (t : Bool) (was : Answer) (x : Read A) → (t ≡ true → P was) → (t ≡ false → Means P x) → Means P (refuseIf t was x)
   means-if true was x f g = means-refused was (f refl)
   means-if false was x f g = g refl
 
-  pub means-or : {A : Type 0} (at : ℕ) (o : Option A) → (o ≡ none → P (NotAllowed at)) → Means (orRefused at o)
+  pub means-or : {A : Type 0} (at : ℕ) (o : Option A) → (o ≡ none → P (NotAllowed at)) → Means P (orRefused at o)
   means-or at none f = means-refused (NotAllowed at) (f refl)
   means-or at (some a) f = means-got a (at + 1)
 
-  pub means-then : {A B : Type 0} (x : Read A) (f : A → ℕ → Read B) → Means x → ((a : A) (at : ℕ) → x ≡ got a at → Means (f a at)) → Means (andThen x f)
+  pub means-then : {A B : Type 0} (x : Read A) (f : A → ℕ → Read B) → Means P x → ((a : A) (at : ℕ) → x ≡ got a at → Means P (f a at)) → Means P (andThen x f)
   means-then (refused was) f h g = means-refused was (h was refl)
   means-then (got a at) f h g = g a at refl
 
-  pub means-many : {A : Type 0} (one : ℕ → Read A) (k at : ℕ) → ((l : List A) (mid : ℕ) → Many one l at mid → length l < k → Means (one mid)) → Means (readMany one k at)
+  pub means-many : {A : Type 0} (one : ℕ → Read A) (k at : ℕ) → ((l : List A) (mid : ℕ) → Many one l at mid → length l < k → Means P (one mid)) → Means P (readMany one k at)
   unfolding readMany
   means-many one zero at f = means-got [] at
   means-many one (suc k) at f =

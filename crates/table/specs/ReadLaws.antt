@@ -7,7 +7,7 @@
 --   row-all, line-all, header-all, body-all == what is there is read
 --   row-read, entry-read, line-read, header-read, body-read, readable-read == what was read is there
 use mathlib.Core.Path.{_≡_, refl, sym, ap, ap₂, subst, _∙_}
-use mathlib.Core.Bool.{Bool, true, false, not}
+use mathlib.Core.Bool.{true, false, not}
 use mathlib.Core.List.{List}
 use mathlib.Core.Option.{Option, some}
 use Prim.Native.Nat.{ℕ, _+_, _≤_, _<_}
@@ -16,14 +16,13 @@ use lib.Dec.{leb, ltb}
 use lib.ListN.{length}
 use borrow.Author.Tests.{ltb-false, leb-false, lt-ltb, le-ltb, le-leb, lt-leb, not-false}
 use Rattle.el.specs.Table.{Filler, Entry, Row, Line, Table}
-use Rattle.answer.specs.declared.Answer.{Answer}
 use Rattle.answer.specs.declared.Answer.the-variants.{EndsEarly, WrongMark, WrongVersion, OverBound, NotAllowed, BytesAfter}
-use Rattle.bounds.specs.Bounds.{Bounds, bounds}
+use Rattle.bounds.specs.Bounds.{Bounds}
 use Rattle.table.specs.declared.Header.{Header}
 use Rattle.table.specs.Code.{fillerOf, entryOf}
-use Rattle.table.specs.Reading.{Read, refused, got, refuseIf, andThen, orRefused, byteAt, missing, rolesPlace, variablesPlace, restrictionsPlace, linesPlace, headerLength, headerOf, rowsAt, marked, versionOne, readCounts, readHeader, readRow, readRows, readEntry, readEntries, thenRight, tableWith, readLine, readLines, thenEnd, thenLines, readBody, Reading, readable, whole, fromHeader, readingWithin}
+use Rattle.table.specs.Reading.{Read, refused, got, andThen, orRefused, byteAt, missing, rolesPlace, variablesPlace, restrictionsPlace, linesPlace, headerLength, headerOf, rowsAt, marked, versionOne, readCounts, readHeader, readRow, readRows, readEntry, readEntries, thenRight, tableWith, readLine, readLines, thenEnd, thenLines, readBody, readable, whole, fromHeader, readingWithin}
 use Rattle.table.specs.Bytes.{Within}
-use Rattle.table.specs.Standing.{Many, RowRead, LineRead, HeaderRead, BodyRead}
+use Rattle.table.specs.Standing.{RowRead, LineRead, HeaderRead, BodyRead}
 use Rattle.table.specs.ManyLaws.{got-same, if-passed, if-refused, refuse-got, then-got, or-got, many-got, many-whole}
 
 module _ (s : List ℕ) (h : Header) where
@@ -187,7 +186,7 @@ module _ (b : Bounds) (s : List ℕ) where
   ------------------------------------------------------------------ the whole
 
   module _ (h : Header) (t : Table) where
-    pub body-read : (end : ℕ) → readBody b s h ≡ got t end → BodyRead b s h t
+    body-read : (end : ℕ) → readBody b s h ≡ got t end → BodyRead b s h t
     unfolding readBody
     body-read end q =
         let f = then-got (readRows s h (h .e) (rowsAt s)) (thenLines b s h) t end q in

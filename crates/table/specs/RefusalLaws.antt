@@ -26,13 +26,13 @@ use Rattle.answer.specs.Handed.{handed}
 use Rattle.bounds.specs.Bounds.{bounds, maxAtoms, maxRoles, maxVariables, maxLines, maxLeft}
 use Rattle.table.specs.declared.Header.{Header}
 use Rattle.table.specs.Code.{fillerOf, entryOf}
-use Rattle.table.specs.Reading.{Read, refused, got, andThen, orRefused, byteAt, missing, rolesPlace, variablesPlace, restrictionsPlace, linesPlace, headerLength, headerOf, rowsAt, marked, versionOne, readCounts, readHeader, readRow, readRows, readEntry, readEntries, thenRight, tableWith, readLine, readLines, thenEnd, thenLines, readBody, Reading, refusal, whole, fromHeader, reading}
-use Rattle.table.specs.Bytes.{writtenRow, writtenLine, writtenEntry, bytesWith, Right}
-use Rattle.table.specs.Standing.{Many, First, HeaderRead}
-use Rattle.table.specs.ManyLaws.{if-passed, if-refused, Means, means-got, means-if, means-or, means-then, means-many, many-got, many-whole, many-stopped, stands-then, many-written, many-read}
+use Rattle.table.specs.Reading.{Read, refused, got, andThen, orRefused, byteAt, missing, rolesPlace, variablesPlace, restrictionsPlace, linesPlace, headerLength, headerOf, rowsAt, marked, versionOne, readCounts, readHeader, readRow, readRows, readEntry, readEntries, thenRight, tableWith, readLine, readLines, thenEnd, thenLines, readBody, refusal, whole, fromHeader, reading}
+use Rattle.table.specs.Bytes.{writtenRow, writtenEntry, bytesWith, Right}
+use Rattle.table.specs.Standing.{Means, Many, First, HeaderRead}
+use Rattle.table.specs.ManyLaws.{if-passed, if-refused, means-got, means-if, means-or, means-then, means-many, many-got, many-whole, many-stopped, stands-then, many-written, many-read}
 use Rattle.table.specs.ReadLaws.{row-short, row-role, row-half, row-answer, entry-short, entry-answer, line-short, line-over, line-opened, header-short, header-mark, header-version, header-counts, header-all, header-read}
 use Rattle.table.specs.StandsLaws.{here-byte, byte-here, entry-stands, entry-reads}
-use Rattle.table.specs.BytesLaws.{first-then, first-all, first-byte, behind, rows-there, lines-there, rowsEnd, header-there, rows-first, lines-end, lines-next}
+use Rattle.table.specs.BytesLaws.{first-then, first-all, first-byte, behind, rows-there, lines-there, header-there, rows-first, lines-end, lines-next}
 use Rattle.table.specs.Refusal.{Slot, aRole, aFiller, aCount, anEntry, nothing, Awaited, Begins, Refuses, Over, over-roles, over-variables, over-atoms, over-lines, RefusedAt, header-cut, wrong-mark, wrong-version, over-bound, over-left, ends-early, not-allowed, bytes-after}
 
 pub refused-number : {s : List ℕ} {why : Answer} → RefusedAt s why → (1 ≤ handed why .number) × (handed why .number ≤ 6)

@@ -1,5 +1,6 @@
 -- What was read, and where it stands.
 --
+--   Means P x          == where x is a refusal, P holds of it
 --   Many one l at end  == the things l were read by `one` from `at` on, and `end` is the place after them
 --   along next at n    == the place after n steps of `next` from `at` on
 --   Stands s at bytes end == the bytes stand at `at`, and `end` is the place after them
@@ -14,11 +15,16 @@ use mathlib.Core.Option.{some}
 use Prim.Native.Nat.{ℕ, zero, suc, _+_, _≤_, _<_}
 use lib.ListN.{length, drop}
 use Rattle.el.specs.Table.{Row, Line, Table}
+use Rattle.answer.specs.declared.Answer.{Answer}
 use Rattle.bounds.specs.Bounds.{Bounds}
 use Rattle.table.specs.declared.Header.{Header}
 use Rattle.table.specs.Code.{fillerOf}
-use Rattle.table.specs.Reading.{Read, got, byteAt, headerLength, headerOf, rowsAt, marked, versionOne, readRow, readEntry, readLine, tableWith}
+use Rattle.table.specs.Reading.{Read, refused, got, byteAt, headerLength, headerOf, rowsAt, marked, versionOne, readRow, readEntry, readLine, tableWith}
 use Rattle.table.specs.Bytes.{Within}
+
+-- where x is a refusal, P holds of it
+abbrev pub Means : (Answer → Type 0) → {A : Type 0} → Read A → Type 0
+Means P x = (why : Answer) → x ≡ refused why → P why
 
 abbrev pub Many : {A : Type 0} → (ℕ → Read A) → List A → ℕ → ℕ → Type 0
 Many one [] at end = at ≡ end

@@ -1,9 +1,9 @@
 -- What is read stands there as it is written, and what stands there as it is written is read.
 --
---   here-byte, here-end, byte-here == what stands at a place, by what is left from there
+--   here-byte, byte-here == what stands at a place, by what is left from there
 --   row-stands, row-is          == a row that was read stands there as it is written, and one that stands there is read
 --   entry-stands, entry-reads, line-stands, line-is == the same for an entry and for a line
---   header-stands, header-is    == the same for the header
+--   header-first, header-stands, first-header, header-is == the same for the header
 use mathlib.Core.Path.{_≡_, refl, sym, ap, ap₂, subst, _∙_}
 use mathlib.Core.Bool.{_&&_}
 use mathlib.Core.List.{List, [], _∷_, _++_, flatMap, append-assoc}
@@ -20,11 +20,11 @@ use Rattle.bounds.specs.Bounds.{bounds, maxLeft}
 use Rattle.table.specs.declared.Header.{Header}
 use Rattle.table.specs.Code.{fillerOf, entryOf}
 use Rattle.table.specs.CodeLaws.{filler-code, filler-is, entry-code, entry-is}
-use Rattle.table.specs.Reading.{Read, got, byteAt, headerLength, headerOf, marked, versionOne, readHeader, readRow, readEntry, readLine, tableWith}
+use Rattle.table.specs.Reading.{got, byteAt, headerLength, headerOf, marked, versionOne, readHeader, readRow, readEntry, readLine, tableWith}
 use Rattle.table.specs.Bytes.{fillerCode, entryCode, writtenHeader, writtenRow, writtenEntry, writtenLine, Within, lineRight}
-use Rattle.table.specs.Standing.{Many, Stands, First, HeaderRead}
+use Rattle.table.specs.Standing.{Stands, First, HeaderRead}
 use Rattle.table.specs.ManyLaws.{stands-then, drop-behind, many-written, many-read}
-use Rattle.table.specs.ReadLaws.{row-all, row-read, entry-answer, entry-read, line-all, line-read}
+use Rattle.table.specs.ReadLaws.{row-all, row-read, entry-answer, entry-read, line-all, line-read, header-all, header-read}
 
 ------------------------------------------------------------------ what stands at a place
 
@@ -37,12 +37,6 @@ module _ (s : List ℕ) where
     ap (λ (i : ℕ). getD s i 0) (let e : at ≡ at + 0 = omega arith in e) ∙ sym (getD-drop at s 0 0) ∙ ap (λ (l : List ℕ). getD l 0 0) q,
     sym (drop-drop 1 at s) ∙ ap (drop 1) q,
   )
-
-  pub here-end : (at : ℕ) → drop at s ≡ [] → length s ≤ at
-  here-end at q =
-      let l : length (drop at s) ≡ length s - at = length-drop at s in
-      let k : length (drop at s) ≡ 0 = ap length q in
-      omega arith
 
   pub byte-here : (at : ℕ) → at < length s → drop at s ≡ byteAt s at ∷ drop (at + 1) s
   byte-here at l = drop-cons s at 0 l ∙ ap (λ (k : ℕ). byteAt s at ∷ drop k s) (sym (add-one at))
@@ -170,13 +164,19 @@ header-bytes s long m v =
     front s headerLength 0 long
     ∙ five _ (eqb→eq (byteAt s 0) 0x56 (and-left (eqb (byteAt s 0) 0x56) (eqb (byteAt s 1) 0x4F && eqb (byteAt s 2) 0x43) m)) (a .0) (a .1) (b .0) (b .1)
 
-pub header-stands : (s : List ℕ) (h : Header) → HeaderRead bounds s h → First s (writtenHeader h) headerLength
+pub header-first : (s : List ℕ) (h : Header) → HeaderRead bounds s h → First s (writtenHeader h) headerLength
 unfolding writtenHeader
-header-stands s h r = (
+header-first s h r = (
   subst (λ (x : Header). s ≡ writtenHeader x ++ drop headerLength s) (sym (r .same)) (header-bytes s (r .inside) (true-is (marked s) (r .mark)) (true-is (versionOne s) (r .version))),
   refl,
 )
 
-pub header-is : (h : Header) (tail : List ℕ) → Within bounds h → HeaderRead bounds (writtenHeader h ++ tail) h
+pub header-stands : (s : List ℕ) (h : Header) (end : ℕ) → readHeader bounds s ≡ got h end → (s ≡ writtenHeader h ++ drop headerLength s) × Within bounds h
+header-stands s h end q = let r = header-read bounds s h end q in (header-first s h r .0, r .counts)
+
+pub first-header : (h : Header) (tail : List ℕ) → Within bounds h → HeaderRead bounds (writtenHeader h ++ tail) h
 unfolding writtenHeader marked versionOne
-header-is h tail w = record { same = refl; inside = omega arith; mark = refl; version = refl; counts = w }
+first-header h tail w = record { same = refl; inside = omega arith; mark = refl; version = refl; counts = w }
+
+pub header-is : (h : Header) (tail : List ℕ) → Within bounds h → readHeader bounds (writtenHeader h ++ tail) ≡ got h headerLength
+header-is h tail w = header-all bounds (writtenHeader h ++ tail) h (first-header h tail w)

@@ -3,7 +3,7 @@
 --   readable-wider == WHAT IS READABLE WITHIN b IS READ AS THE SAME TABLE WITHIN w
 use mathlib.Core.Path.{_≡_}
 use mathlib.Core.List.{List, [], _∷_}
-use Prim.Native.Nat.{ℕ, _≤_}
+use Prim.Native.Nat.{ℕ}
 use native.Mathlib.Omega.{arith}
 use Rattle.el.specs.Table.{Line, Table}
 use Rattle.bounds.specs.Bounds.{Bounds}

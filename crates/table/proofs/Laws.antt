@@ -6,17 +6,17 @@
 --   step-refused, step-got       == what was answered, by the step
 --   then-last                    == a step whose last part cannot fail
 --   turn-start, turn-stop, turn-next, turn-end == the turns of a loop over many of a kind
---   mark-.., version-..          == the tests of the mark and the version, by the byte at which they end
+--   and-stop, and-on             == the test of two, by the one at which it ends
 --   header-counted, row-.., entry-.., line-.., body-.., check-.. == answers of the function so named
 use mathlib.Core.Path.{_≡_, refl, sym, ap, _∙_}
-use mathlib.Core.Bool.{Bool, true, false, cond, true≢false}
+use mathlib.Core.Bool.{Bool, true, false, _&&_, cond, true≢false}
 use mathlib.Core.List.{List, _∷_}
 use mathlib.Core.Option.{Option, none, some}
 use Prim.Native.Nat.{ℕ, suc, _+_, _-_, _≤_, _<_}
 use native.Mathlib.Omega.{arith}
-use lib.Dec.{eqb, ltb}
+use lib.Dec.{ltb}
 use lib.ListN.{length}
-use borrow.Author.Tests.{lt-ltb, le-ltb, eq-eqb, ne-eqb}
+use borrow.Author.Tests.{lt-ltb, le-ltb}
 use Rattle.el.specs.Table.{Entry, Row, Line, Table}
 use Rattle.answer.specs.declared.Answer.{Answer}
 use Rattle.answer.specs.declared.Answer.the-variants.{NotAllowed, BytesAfter}
@@ -108,27 +108,14 @@ module _ {A : Type 0} (one : ℕ → Read A) where
 
 ------------------------------------------------------------------ the header
 
+-- the test of two, by the one at which it ends
+pub and-stop : {a : Bool} (b : Bool) → a ≡ false → a ≡ a && b
+and-stop b e = rw e
+
+pub and-on : {a : Bool} (b : Bool) → a ≡ true → b ≡ a && b
+and-on b e = rw e
+
 module _ (s : List ℕ) where
-  pub mark-0 : (byteAt s 0 ≡ 0x56 → ⊥) → eqb (byteAt s 0) 0x56 ≡ marked s
-  unfolding marked
-  mark-0 h = simp (ne-eqb (byteAt s 0) 0x56 h)
-
-  pub mark-1 : byteAt s 0 ≡ 0x56 → (byteAt s 1 ≡ 0x4F → ⊥) → eqb (byteAt s 1) 0x4F ≡ marked s
-  unfolding marked
-  mark-1 g h = simp (eq-eqb (byteAt s 0) 0x56 g, ne-eqb (byteAt s 1) 0x4F h)
-
-  pub mark-2 : byteAt s 0 ≡ 0x56 → byteAt s 1 ≡ 0x4F → eqb (byteAt s 2) 0x43 ≡ marked s
-  unfolding marked
-  mark-2 g h = simp (eq-eqb (byteAt s 0) 0x56 g, eq-eqb (byteAt s 1) 0x4F h)
-
-  pub version-0 : (byteAt s 3 ≡ 1 → ⊥) → eqb (byteAt s 3) 1 ≡ versionOne s
-  unfolding versionOne
-  version-0 h = simp (ne-eqb (byteAt s 3) 1 h)
-
-  pub version-1 : byteAt s 3 ≡ 1 → eqb (byteAt s 4) 0 ≡ versionOne s
-  unfolding versionOne
-  version-1 g = simp (eq-eqb (byteAt s 3) 1 g)
-
   pub header-counted : (k : Header) → k ≡ headerOf s → headerLength ≤ length s → marked s ≡ true → versionOne s ≡ true → stepOf (readCounts bounds k) ≡ stepOf (readHeader bounds s)
   header-counted k same long mark version = ap stepOf (ap (readCounts bounds) same ∙ sym (header-counts bounds s long mark version))
 

@@ -62,40 +62,33 @@ with-length h rows lines right =
     omega arith
 
 -- a whole table at most
-within-length : (h : Header) (rows : List Row) (lines : List Line) → Right h rows lines → length rows ≤ h .e → (k : ℕ) → length lines + k ≤ h .m → length (bytesWith h rows lines) + longestLine * k ≤ longestLength
-within-length h rows lines right r k l =
+within-length : (h : Header) (rows : List Row) (lines : List Line) (good : List ℕ) → Right h rows lines → length rows ≤ h .e → (k : ℕ) → length lines + k ≤ h .m → good ≡ bytesWith h rows lines
+    → length good + longestLine * k ≤ longestLength
+within-length h rows lines good right r k l is =
     let w = with-length h rows lines right in
     let e : h .c + h .e ≤ maxAtoms = right .counts .few-atoms in
     let m : h .m ≤ maxLines = right .counts .few-lines in
+    let g : length good ≡ length (bytesWith h rows lines) = ap length is in
     omega arith
 
 begun-length : (h : Header) (good : List ℕ) (x : Slot) → Begins h good x → length good ≤ longestLength
-begun-length h good aRole (rows, right, fewer, is) =
-    let w = within-length h rows [] right (omega arith) 0 (omega arith) in
-    let e : length good ≡ length (bytesWith h rows []) = ap length is in
-    omega arith
+begun-length h good aRole (rows, right, fewer, is) = let w = within-length h rows [] good right (omega arith) 0 (omega arith) is in omega arith
 begun-length h good aFiller (rows, role, right, fewer, less, is) =
     let w = with-length h rows [] right in
     let a : h .c + h .e ≤ maxAtoms = right .counts .few-atoms in
     let e : length good ≡ length (bytesWith h rows []) + 1 = ap length is ∙ length-append (bytesWith h rows []) (role ∷ []) in
     omega arith
-begun-length h good aCount (rows, lines, right, all, fewer, is) =
-    let w = within-length h rows lines right (omega arith) 0 (omega arith) in
-    let e : length good ≡ length (bytesWith h rows lines) = ap length is in
-    omega arith
+begun-length h good aCount (rows, lines, right, all, fewer, is) = let w = within-length h rows lines good right (omega arith) 0 (omega arith) is in omega arith
 begun-length h good anEntry (rows, lines, p, xs, right, all, fewer, few, some-left, known, is) =
-    let w = within-length h rows lines right (omega arith) 1 (omega arith) in
+    let w = within-length h rows lines (bytesWith h rows lines) right (omega arith) 1 (omega arith) refl in
     let a : length (flatMap writtenEntry xs) ≡ length xs = entries-length xs in
     let e : length good ≡ length (bytesWith h rows lines) + suc (length (flatMap writtenEntry xs)) = ap length is ∙ length-append (bytesWith h rows lines) (p ∷ flatMap writtenEntry xs) in
     omega arith
-begun-length h good nothing (rows, lines, right, all, whole, is) =
-    let w = within-length h rows lines right (omega arith) 0 (omega arith) in
-    let e : length good ≡ length (bytesWith h rows lines) = ap length is in
-    omega arith
+begun-length h good nothing (rows, lines, right, all, whole, is) = let w = within-length h rows lines good right (omega arith) 0 (omega arith) is in omega arith
 
 table-length : (t : Table) → Fits t → length (bytesOf t) ≤ longestLength
 unfolding Fits bytesOf countsOf
-table-length t fits = let w = within-length (countsOf t) (t .rows) (t .lines) fits (omega arith) 0 (omega arith) in omega arith
+table-length t fits = let w = within-length (countsOf t) (t .rows) (t .lines) (bytesOf t) fits (omega arith) 0 (omega arith) refl in omega arith
 
 -- "The longest readable table has 698 bytes."
 pub longest : (s : List ℕ) → T (isReadable (reading s)) → length s ≤ longestLength

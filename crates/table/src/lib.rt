@@ -1,4 +1,8 @@
 // What the bytes say: the codes and the reader.
+//
+// A table is read in byte order: its header, its rows, its lines, and nothing after them. Each reader answers the place after what it
+// read, or the refusal, and rows and lines are read under the counts that are handed to them. The crates above ask for a table's counts,
+// for the role and the filler of a row, and for the byte where a line begins; no other crate knows where these stand.
 ghost use mathlib.Core.Path.{_≡_};
 ghost use Prim.Native.Nat.{_≤_, _<_};
 ghost use lib.Dec.{T};
@@ -30,7 +34,7 @@ pub const LINES: usize = 9;
 pub const HEADER: usize = 10;
 
 // Where the filler of row 0 stands.
-const FILLER: usize = 11;
+const FILLER: usize = HEADER + 1;
 
 // The counts of a table: constants c, roles r, variables v, restrictions e, lines m.
 pub struct Header {

@@ -18,7 +18,7 @@ use Rattle.el.specs.Test.{everyOf}
 use Rattle.el.specs.Table.{Row, Line, Table, rowDeclared}
 use Rattle.bounds.specs.Bounds.{bounds}
 use Rattle.table.specs.declared.Header.{Header}
-use Rattle.table.specs.Reading.{byteAt, headerLength, rowsAt, readRow, readLine, tableWith, readable, reading}
+use Rattle.table.specs.Reading.{byteAt, rowsAt, readRow, readLine, tableWith, readable, reading}
 use Rattle.table.specs.Bytes.{writtenHeader, writtenRow, writtenLine, bytesWith, countsOf, bytesOf, lineRight, Right, Fits, IsTable}
 use Rattle.table.specs.Standing.{Many, Stands, First, HeaderRead}
 use Rattle.table.specs.ManyLaws.{stands-then, drop-behind, many-written, many-read}
@@ -93,27 +93,27 @@ module _ (s : List ℕ) (h : Header) (rows : List Row) (lines : List Line) (tail
   pub header-there : HeaderRead bounds s h
   header-there = subst (λ (x : List ℕ). HeaderRead bounds x h) (sym begins) (first-header h (flatMap writtenRow rows ++ (flatMap writtenLine lines ++ tail)) (right .counts))
 
-  behind-header : drop headerLength s ≡ flatMap writtenRow rows ++ (flatMap writtenLine lines ++ tail)
+  behind-header : drop (rowsAt s) s ≡ flatMap writtenRow rows ++ (flatMap writtenLine lines ++ tail)
   unfolding writtenHeader
-  behind-header = ap (drop headerLength) begins
+  behind-header = ap (drop (rowsAt s)) begins
 
-  pub rows-first : Many (readRow s h) rows (rowsAt s) (headerLength + length (flatMap writtenRow rows))
+  pub rows-first : Many (readRow s h) rows (rowsAt s) (rowsAt s + length (flatMap writtenRow rows))
   rows-first =
-      many-read s (readRow s h) writtenRow (rowDeclared (tableWith h rows lines)) (row-is s h rows lines (let w = right .counts .few-atoms in omega arith)) rows headerLength
+      many-read s (readRow s h) writtenRow (rowDeclared (tableWith h rows lines)) (row-is s h rows lines (let w = right .counts .few-atoms in omega arith)) rows (rowsAt s)
       (flatMap writtenLine lines ++ tail) (right .rows-right) behind-header
 
-  pub lines-end : headerLength + length (flatMap writtenRow rows) + length (flatMap writtenLine lines) ≡ length (bytesWith h rows lines)
+  pub lines-end : rowsAt s + length (flatMap writtenRow rows) + length (flatMap writtenLine lines) ≡ length (bytesWith h rows lines)
   unfolding bytesWith writtenHeader
   lines-end =
       let a : length (flatMap writtenRow rows ++ flatMap writtenLine lines) ≡ length (flatMap writtenRow rows) + length (flatMap writtenLine lines) = length-append (flatMap writtenRow rows) (flatMap writtenLine lines) in
       omega arith
 
-  pub lines-next : length rows ≡ h .e → Many (readLine bounds s h) lines (headerLength + length (flatMap writtenRow rows)) (length (bytesWith h rows lines))
+  pub lines-next : length rows ≡ h .e → Many (readLine bounds s h) lines (rowsAt s + length (flatMap writtenRow rows)) (length (bytesWith h rows lines))
   lines-next all =
       let w = right .counts .few-atoms in
-      subst (Many (readLine bounds s h) lines (headerLength + length (flatMap writtenRow rows))) lines-end
-      (many-read s (readLine bounds s h) writtenLine (lineRight (tableWith h rows lines)) (line-is s h rows lines all (omega arith) (omega arith)) lines (headerLength + length (flatMap writtenRow rows)) tail (right .lines-right)
-      (drop-behind s headerLength (flatMap writtenRow rows) (flatMap writtenLine lines ++ tail) behind-header))
+      subst (Many (readLine bounds s h) lines (rowsAt s + length (flatMap writtenRow rows))) lines-end
+      (many-read s (readLine bounds s h) writtenLine (lineRight (tableWith h rows lines)) (line-is s h rows lines all (omega arith) (omega arith)) lines (rowsAt s + length (flatMap writtenRow rows)) tail (right .lines-right)
+      (drop-behind s (rowsAt s) (flatMap writtenRow rows) (flatMap writtenLine lines ++ tail) behind-header))
 
 -- THE BYTES OF A TABLE THAT FITS ARE READ AS THAT TABLE
 pub written-is-readable : (t : Table) → Fits t → reading (bytesOf t) ≡ readable (countsOf t) t
@@ -124,7 +124,7 @@ written-is-readable t fits =
     (record {
       rows = t .rows;
       lines = t .lines;
-      mid = headerLength + length (flatMap writtenRow (t .rows));
+      mid = rowsAt (bytesOf t) + length (flatMap writtenRow (t .rows));
       end = length (bytesOf t);
       same = refl;
       all-rows = refl;

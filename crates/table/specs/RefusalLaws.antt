@@ -175,13 +175,13 @@ module _ (s : List ℕ) where
       unfolding reading
       in-body why q = ap (fromHeader bounds s) (header-all bounds s h (header-there s h rows lines tail right is)) ∙ ap (whole h) q
 
-      in-row : length rows < h .e → (why : Answer) → readRow s h (headerLength + length (flatMap writtenRow rows)) ≡ refused why → reading s ≡ refusal why
+      in-row : length rows < h .e → (why : Answer) → readRow s h (rowsAt s + length (flatMap writtenRow rows)) ≡ refused why → reading s ≡ refusal why
       unfolding readBody
       in-row fewer why q =
           in-body why (ap (λ (x : Read (List Row)). andThen x (thenLines bounds s h)) (many-stopped (readRow s h) (h .e) rows (rowsAt s) _ why (rows-first s h rows lines tail right is) fewer q))
 
       module _ (all : length rows ≡ h .e) where
-        past-rows : readBody bounds s h ≡ thenLines bounds s h rows (headerLength + length (flatMap writtenRow rows))
+        past-rows : readBody bounds s h ≡ thenLines bounds s h rows (rowsAt s + length (flatMap writtenRow rows))
         unfolding readBody
         past-rows = ap (λ (x : Read (List Row)). andThen x (thenLines bounds s h)) (many-whole (readRow s h) (h .e) rows (rowsAt s) _ all (rows-first s h rows lines tail right is))
 

@@ -19,6 +19,7 @@ use lib.Dec.{eqb}
 use lib.Bits.{bitOr, bitAnd, bitXor, differ, or-shr, or-step, and-shr, and-step, xor-shr, xor-step}
 use lib.Pow.{pow-pos, pow-lt, pow-add, shl-exact, shr-shr}
 use borrow.Author.Tests.{eq-eqb, ne-eqb}
+use Rattle.bounds.specs.Bounds.{setBits, setNumbers}
 use Rattle.el.specs.Test.{bit}
 use Rattle.el.specs.TestLaws.{bit-none}
 
@@ -33,8 +34,8 @@ pub bit-off : (i s : ℕ) → (s / 2 ^ i % 2 ≡ 1 → ⊥) → bit i s ≡ fals
 unfolding bit
 bit-off i s e = ne-eqb (s / 2 ^ i % 2) 1 e
 
-pub power-fits : (k : ℕ) → k < 32 → 1 * 2 ^ k % 4294967296 ≡ 2 ^ k
-power-fits k h = shl-exact 1 k 32 (omega arith) (omega arith) ∙ one-mul (2 ^ k)
+pub power-fits : (k : ℕ) → k < setBits → 1 * 2 ^ k % setNumbers ≡ 2 ^ k
+power-fits k h = shl-exact 1 k setBits (omega arith) (omega arith) ∙ one-mul (2 ^ k)
 
 even : (d : ℕ) → 2 ^ suc d % 2 ≡ 0
 even d = rw (pow-suc 2 d) (omega arith)

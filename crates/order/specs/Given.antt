@@ -1,14 +1,15 @@
--- What the line test is given, in bytes and set numbers, and what it answers.
+-- What the line test is given, in bytes and set numbers.
 --
 --   fillerFrom b, entryFrom b  == the filler, the entry that the code b writes, declared or not
---   IsFiller s b, IsEntry s b  == the code b writes a filler, an entry that the table s declares
+--   FillerFits b               == the code b writes a filler that some table within the bounds declares
+--   EntryFits c b              == the code b writes an entry that some table within the bounds with c constants declares
 --   RowsGiven s over inner     == bit k of `over j` says that row k's role lies under row j's, and `inner k` is the code of row k's filler
 --   Over s j n m               == the bits of m are those rows among the first n whose roles lie under row j's
 --   RowsTo s n over inner      == the same as RowsGiven, of the first n rows
---   Given s a c e              == s is a readable table with c constants and e restrictions, a has a set for each variable
---   LineGiven s over inner a c e v n at == s is a readable table with the counts c, e and v, a is acyclic, line n begins at the byte `at`
---   setBelow s a k S j         == the conjunction of the set S lies below atom j, where k dependences are left
---   fillerBelow s a k f g      == the filler of the code f lies below the filler of the code g, where k dependences are left
+--   SetsGiven a                == a has a set for each variable that a table may have
+--   Asking over inner a c e    == e prepared rows of some table with c constants, within the bounds, and sets
+--   LineBegins s at            == a line of the table s begins at the byte `at`
+--   LineGiven s over inner a c e v at == s is a readable table with the counts c, e and v and these rows, a is acyclic, a line begins at the byte `at`
 use mathlib.Core.Path.{_≡_}
 use mathlib.Core.Bool.{Bool, _&&_}
 use mathlib.Core.List.{List}
@@ -16,16 +17,15 @@ use mathlib.Core.Option.{some}
 use Prim.Native.Nat.{ℕ, _+_, _≤_, _<_}
 use lib.Dec.{T, ltb}
 use lib.ListN.{length, getD}
+use Rattle.bounds.specs.Bounds.{maxAtoms, maxVariables}
 use Rattle.el.specs.Test.{bit}
 use Rattle.el.specs.Table.{Filler, topF, constantF, variableF, Entry, constant, restriction, variable, roleOrder, rowAt}
 use Rattle.el.specs.Assignment.{Assignment, acyclic}
 use Rattle.table.specs.declared.Kind.{Kind}
 use Rattle.table.specs.declared.Kind.the-variants.{Top, Constant, Restriction, Variable, Other}
 use Rattle.table.specs.Code.{kindOf, fillerOf, entryOf}
-use Rattle.bounds.specs.Bounds.{maxAtoms, maxVariables}
 use Rattle.table.specs.Reading.{reading, isReadable, tableOf, headerOf}
 use Rattle.table.specs.Layout.{lineStart, IsRowFiller}
-use Rattle.order.specs.Rule.{setTest, fillerTest}
 
 abbrev pub fillerFromKind : Kind → Filler
 fillerFromKind Top = topF
@@ -47,11 +47,11 @@ entryFromKind Other = constant 0
 unfoldable pub entryFrom : ℕ → Entry
 entryFrom b = entryFromKind (kindOf b)
 
-unfoldable pub IsFiller : List ℕ → ℕ → Type 0
-IsFiller s b = fillerOf (headerOf s .c) (headerOf s .v) b ≡ some (fillerFrom b)
+unfoldable pub FillerFits : ℕ → Type 0
+FillerFits b = fillerOf maxAtoms maxVariables b ≡ some (fillerFrom b)
 
-unfoldable pub IsEntry : List ℕ → ℕ → Type 0
-IsEntry s b = entryOf (headerOf s .c) (headerOf s .e) (headerOf s .v) b ≡ some (entryFrom b)
+unfoldable pub EntryFits : ℕ → ℕ → Type 0
+EntryFits c b = (e : ℕ) × (c + e ≤ maxAtoms) × (entryOf c e maxVariables b ≡ some (entryFrom b))
 
 pub record RowsGiven (s over inner : List ℕ) : Type 0 where
   pub over-many : length over ≡ maxAtoms
@@ -69,26 +69,27 @@ pub record RowsTo (s : List ℕ) (n : ℕ) (over inner : List ℕ) : Type 0 wher
   pub over-each : (j : ℕ) → j < n → Over s j (headerOf s .e) (getD over j 0)
   pub inner-each : (k : ℕ) → k < n → IsRowFiller s k (getD inner k 0)
 
-pub record Given (s : List ℕ) (a : Assignment) (c e : ℕ) : Type 0 where
-  pub readable : T (isReadable (reading s))
-  pub constants : c ≡ headerOf s .c
-  pub restrictions : e ≡ headerOf s .e
-  pub few-atoms : c + e ≤ maxAtoms
-  pub sets : length a ≡ maxVariables
+pub record SetsGiven (a : Assignment) : Type 0 where
+  pub many : length a ≡ maxVariables
 
-pub record LineGiven (s over inner : List ℕ) (a : Assignment) (c e v n at : ℕ) : Type 0 where
+pub record Asking (over inner : List ℕ) (a : Assignment) (c e : ℕ) : Type 0 where
+  pub few-atoms : c + e ≤ maxAtoms
+  pub over-many : length over ≡ maxAtoms
+  pub inner-many : length inner ≡ maxAtoms
+  pub sets : SetsGiven a
+  pub fits : (k : ℕ) → k < e → FillerFits (getD inner k 0)
+
+pub record LineBegins (s : List ℕ) (at : ℕ) : Type 0 where
+  pub number : ℕ
+  pub few : number < headerOf s .m
+  pub begins : at ≡ lineStart s number
+
+pub record LineGiven (s over inner : List ℕ) (a : Assignment) (c e v at : ℕ) : Type 0 where
   pub readable : T (isReadable (reading s))
   pub constants : c ≡ headerOf s .c
   pub restrictions : e ≡ headerOf s .e
   pub variables : v ≡ headerOf s .v
-  pub sets : length a ≡ maxVariables
+  pub sets : SetsGiven a
   pub acyclic : T (acyclic (tableOf s) a)
   pub rows : RowsGiven s over inner
-  pub line : n < headerOf s .m
-  pub begins : at ≡ lineStart s n
-
-unfoldable pub setBelow : List ℕ → Assignment → ℕ → ℕ → ℕ → Bool
-setBelow s a k S j = setTest (roleOrder (tableOf s)) (tableOf s) (fillerTest (roleOrder (tableOf s)) (tableOf s) a k) S j
-
-unfoldable pub fillerBelow : List ℕ → Assignment → ℕ → ℕ → ℕ → Bool
-fillerBelow s a k f g = fillerTest (roleOrder (tableOf s)) (tableOf s) a k (fillerFrom f) (fillerFrom g)
+  pub line : LineBegins s at

@@ -2,3 +2,4 @@ pub mod BitLaws
 pub mod Rule
 pub mod RuleLaws
 pub mod Given
+pub mod Asked

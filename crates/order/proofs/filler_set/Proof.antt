@@ -1,21 +1,21 @@
 -- `order::filler_set` is the set of the filler, by the kind of its code; a declared code holds a number in range.
 use mathlib.Core.Path.{refl, sym, _∙_}
-use Rattle.order.proofs.Laws.{filler-constant-fits, filler-variable-fits, set-none, set-one, set-given}
+use Rattle.order.proofs.CodeLaws.{filler-constant-fits, filler-variable-fits, set-none, set-one, set-given}
 use borrow.Author.Needs.{needs}
 use Rattle.order.proofs.filler_set.Statement.{statement}
 use Rattle.order.proofs.filler_set.Tie as tie
 
 shl-result : tie.Need-shl-result
-shl-result c = filler-constant-fits _ _ _ _ (c .before .before .before .before .before .before .before .pre .0) _ _ _ (c .wide .ensures) (c .before .before .before .before .before .before .before .pre .1) (sym (c .before .before .before .before .kind-of .ensures) ∙ c .before .before .k .given .1)
+shl-result c = filler-constant-fits _ _ _ (c .wide .ensures) (c .before .before .before .before .before .before .pre .1) (sym (c .before .before .before .before .kind-of .ensures) ∙ c .before .before .k .given .1)
 
 shared-slice-read-result : tie.Need-shared-slice-read-result
-shared-slice-read-result c = filler-variable-fits _ _ _ _ (c .before .before .before .before .before .before .before .before .pre .0) _ _ _ (c .before .wide2 .ensures) (c .before .before .before .before .before .before .before .before .pre .1) (sym (c .before .before .before .before .before .kind-of .ensures) ∙ c .before .before .before .x .given .1)
+shared-slice-read-result c = filler-variable-fits _ _ _ (c .before .wide2 .ensures) _ (c .before .before .before .before .before .before .before .pre .0) (c .before .before .before .before .before .before .before .pre .1) (sym (c .before .before .before .before .before .kind-of .ensures) ∙ c .before .before .before .x .given .1)
 
 returns : tie.Need-returns
 returns c = set-none _ _ _ (sym (c .before .before .kind-of .ensures) ∙ c .enum-told .given .1) refl
 
 returns-2 : tie.Need-returns-2
-returns-2 c = set-one _ _ _ _ (c .wide .ensures) (filler-constant-fits _ _ _ _ (c .before .before .before .before .before .before .before .pre .0) _ _ _ (c .wide .ensures) (c .before .before .before .before .before .before .before .pre .1) (sym (c .before .before .before .before .kind-of .ensures) ∙ c .before .before .k .given .1)) (sym (c .before .before .before .before .kind-of .ensures) ∙ c .before .before .k .given .1)
+returns-2 c = set-one _ _ _ _ (c .wide .ensures) (filler-constant-fits _ _ _ (c .wide .ensures) (c .before .before .before .before .before .before .pre .1) (sym (c .before .before .before .before .kind-of .ensures) ∙ c .before .before .k .given .1)) (sym (c .before .before .before .before .kind-of .ensures) ∙ c .before .before .k .given .1)
 
 returns-3 : tie.Need-returns-3
 returns-3 c = set-none _ _ _ (sym (c .before .before .kind-of .ensures) ∙ c .enum-told2 .given .1) refl

@@ -1,6 +1,6 @@
 -- `order::flat_below` is the flat test, by the kind of the right code.
 use mathlib.Core.Path.{sym, _∙_}
-use Rattle.order.proofs.Laws.{flat-kind}
+use Rattle.order.proofs.CodeLaws.{flat-kind}
 use borrow.Author.Needs.{needs}
 use Rattle.order.proofs.flat_below.Statement.{statement}
 use Rattle.order.proofs.flat_below.Tie as tie

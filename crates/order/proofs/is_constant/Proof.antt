@@ -1,6 +1,6 @@
 -- `order::is_constant` is the test `isConstant`, by the kind of the code.
 use mathlib.Core.Path.{sym, _∙_}
-use Rattle.order.proofs.Laws.{constant-kind}
+use Rattle.order.proofs.CodeLaws.{constant-kind}
 use borrow.Author.Needs.{needs}
 use Rattle.order.proofs.is_constant.Statement.{statement}
 use Rattle.order.proofs.is_constant.Tie as tie

@@ -6,7 +6,7 @@ use native.Mathlib.Omega.{arith}
 use borrow.Author.Needs.{needs}
 use Rattle.order.specs.Given.{Over}
 use Rattle.table.specs.LayoutLaws.{layout}
-use Rattle.order.proofs.Laws.{over-start, over-hit, over-miss, over-whole}
+use Rattle.order.proofs.RowsLaws.{over-start, over-hit, over-miss, over-whole}
 use Rattle.order.proofs.row_over.Statement.{statement}
 use Rattle.order.proofs.row_over.Tie as tie
 

@@ -6,7 +6,7 @@ use borrow.Author.Needs.{needs}
 use lib.ListN.{length}
 use Rattle.order.specs.Given.{RowsTo}
 use Rattle.table.specs.LayoutLaws.{layout}
-use Rattle.order.proofs.Laws.{rows-start, rows-step, rows-whole}
+use Rattle.order.proofs.RowsLaws.{rows-start, rows-step, rows-whole}
 use Rattle.order.proofs.rows_of.Statement.{statement}
 use Rattle.order.proofs.rows_of.Tie as tie
 

@@ -4,9 +4,9 @@
 --   none-start, none-off, none-fails, none-rest, none-end, some-passes == the loop over the bits of a mask
 --   constants-missing, constants-there == a missing constant decides, and none is missing
 --   constant-at, rows-at        == a conjunction below a constant, and below a restriction, as it is asked
---   sets-hold, sets-fail        == a conjunction below every atom of another, as it is asked
+--   each-holds, each-fails, each-none == a conjunction below every atom of a set, as it is asked
 --   filler-flat, filler-sets    == a filler below a filler, as it is asked
---   set-asked, sets-asked, filler-asked == over the rows of a table the three questions answer the rule
+--   set-asked, each-asked, filler-asked == over the rows of a table the three questions answer the rule
 use mathlib.Core.Path.{_≡_, refl, sym, ap, ap₂, subst, _∙_}
 use mathlib.Core.Bool.{Bool, true, false, _&&_, _||_, not, and-assoc, and-comm, and-false, or-true, or-false}
 use mathlib.Core.List.{List}
@@ -31,7 +31,7 @@ use Rattle.order.specs.BitLaws.{bit-on, bit-off, bit-more, high-none, bi
 use Rattle.order.specs.Rule.{fillerSet, atomRow, flatTest, atomTest, setTest, fillerTest}
 use Rattle.order.specs.RuleLaws.{any-one, set-itself}
 use Rattle.order.specs.Given.{fillerFrom, RowsGiven, LineGiven}
-use Rattle.order.specs.Asked.{anyIn, missing, setAsk, setsAsk, fillerAsked}
+use Rattle.order.specs.Asked.{anyIn, missing, setAsk, eachAsk, fillerAsked}
 use Rattle.order.proofs.CodeLaws.{filler-read}
 
 ----------------------------------------------------------------------------------------------------
@@ -93,8 +93,8 @@ module _ (over inner : List ℕ) (a : Assignment) (c e : ℕ) where
     rows-at h = rw (le-ltb j c h, setAsk)
 
   -- a constant is asked by its bit alone: one that is missing decides, and where none is, the restrictions are left
-  pub constants-missing : (fb : ℕ → ℕ → Bool) (L R : ℕ) → anyBelow c (λ j. bit j (missing L R)) ≡ true → setsAsk over inner a c e fb L R ≡ false
-  unfolding setsAsk anyIn
+  pub constants-missing : (fb : ℕ → ℕ → Bool) (L R : ℕ) → anyBelow c (λ j. bit j (missing L R)) ≡ true → eachAsk over inner a c e fb L (missing L R) ≡ false
+  unfolding eachAsk anyIn
   constants-missing fb L R t =
       let r = anyBelow-found c (λ j. bit j (missing L R)) (true-is (anyBelow c (λ j. bit j (missing L R))) t) in
       let h : r .0 < c = r .1 in
@@ -106,26 +106,30 @@ module _ (over inner : List ℕ) (a : Assignment) (c e : ℕ) where
       lacks x false h = refl
       lacks x true h = sym h ∙ and-false x
 
-  -- no missing atom fails, and one does
-  pub sets-hold : (fb : ℕ → ℕ → Bool) (L R : ℕ) → anyIn (missing L R) (c + e) (λ j. not (setAsk over inner a c e fb L j)) ≡ false → true ≡ setsAsk over inner a c e fb L R
-  unfolding setsAsk
-  sets-hold fb L R h = sym (ap not h)
+  -- no atom fails, and one does
+  module _ (fb : ℕ → ℕ → Bool) (L M : ℕ) where
+    pub each-holds : anyIn M (c + e) (λ j. not (setAsk over inner a c e fb L j)) ≡ false → true ≡ eachAsk over inner a c e fb L M
+    unfolding eachAsk
+    each-holds h = sym (ap not h)
 
-  pub sets-fail : (fb : ℕ → ℕ → Bool) (L R : ℕ) → anyIn (missing L R) (c + e) (λ j. not (setAsk over inner a c e fb L j)) ≡ true → false ≡ setsAsk over inner a c e fb L R
-  unfolding setsAsk
-  sets-fail fb L R h = sym (ap not h)
+    pub each-fails : anyIn M (c + e) (λ j. not (setAsk over inner a c e fb L j)) ≡ true → false ≡ eachAsk over inner a c e fb L M
+    unfolding eachAsk
+    each-fails h = sym (ap not h)
+
+    pub each-none : M ≡ 0 → true ≡ eachAsk over inner a c e fb L M
+    each-none z = each-holds (none-rest M (λ j. not (setAsk over inner a c e fb L j)) (c + e) 0 (none-start M (λ j. not (setAsk over inner a c e fb L j))) (omega arith))
 
   pub filler-flat : (d f g : ℕ) → d ≡ 0 → flatTest (fillerFrom f) (fillerFrom g) ≡ fillerAsked over inner a c e d f g
   unfolding fillerAsked
   filler-flat d f g z = rw z
 
   pub filler-sets : (d f g L R : ℕ) → (d ≡ 0 → ⊥) → L ≡ fillerSet a (fillerFrom f) → R ≡ fillerSet a (fillerFrom g)
-      → setsAsk over inner a c e (fillerAsked over inner a c e (d - 1)) L R ≡ fillerAsked over inner a c e d f g
+      → eachAsk over inner a c e (fillerAsked over inner a c e (d - 1)) L (missing L R) ≡ fillerAsked over inner a c e d f g
   unfolding fillerAsked
   filler-sets zero f g L R n l r = absurd (n refl)
   filler-sets (suc d) f g L R n l r =
-      ap₂ (λ (x y : ℕ). setsAsk over inner a c e (fillerAsked over inner a c e (suc d - 1)) x y) l r
-      ∙ ap (λ (k : ℕ). setsAsk over inner a c e (fillerAsked over inner a c e k) (fillerSet a (fillerFrom f)) (fillerSet a (fillerFrom g))) (let z : suc d - 1 ≡ d = omega arith in z)
+      ap₂ (λ (x y : ℕ). eachAsk over inner a c e (fillerAsked over inner a c e (suc d - 1)) x (missing x y)) l r
+      ∙ ap (λ (k : ℕ). eachAsk over inner a c e (fillerAsked over inner a c e k) (fillerSet a (fillerFrom f)) (missing (fillerSet a (fillerFrom f)) (fillerSet a (fillerFrom g)))) (let z : suc d - 1 ≡ d = omega arith in z)
 
 pub constants-there : (c M : ℕ) (q : ℕ → Bool) → anyBelow c (λ j. bit j M) ≡ false → anyIn M c q ≡ false
 unfolding anyIn
@@ -254,9 +258,9 @@ module _ (s over inner : List ℕ) (a : Assignment) (c e v at : ℕ) (g : LineGi
         go (yes l) = constant-at over inner a c e (fillerAsked over inner a c e d) S j l ∙ sym (set-constant d S j l)
         go (no l) = rows-at over inner a c e (fillerAsked over inner a c e d) S j (omega arith) ∙ set-rows S j (omega arith) h
 
-    pub sets-asked : (L R : ℕ) → setsAsk over inner a c e (fillerAsked over inner a c e d) L R ≡ allBelow (atoms (tableOf s)) (λ j. not (bit j R) || setTest under (tableOf s) (rule d) L j)
-    unfolding setsAsk anyIn
-    sets-asked L R =
+    pub each-asked : (L R : ℕ) → eachAsk over inner a c e (fillerAsked over inner a c e d) L (missing L R) ≡ allBelow (atoms (tableOf s)) (λ j. not (bit j R) || setTest under (tableOf s) (rule d) L j)
+    unfolding eachAsk anyIn
+    each-asked L R =
         none-fails-all (c + e) (λ j. bit j (missing L R)) (setAsk over inner a c e (fillerAsked over inner a c e d) L)
         ∙ allBelow-same (c + e) (λ j. not (bit j (missing L R)) || setAsk over inner a c e (fillerAsked over inner a c e d) L j) (λ j. not (bit j R) || setTest under (tableOf s) (rule d) L j)
         (λ j h. ap₂ (λ x y. not x || y) (bit-missing j L R) (set-asked L j h) ∙ sym (asked-alone (bit j R) (bit j L) (setTest under (tableOf s) (rule d) L j) (itself j h)))
@@ -268,4 +272,4 @@ module _ (s over inner : List ℕ) (a : Assignment) (c e v at : ℕ) (g : LineGi
   pub filler-asked : (d f h : ℕ) → fillerAsked over inner a c e d f h ≡ rule d (fillerFrom f) (fillerFrom h)
   unfolding fillerAsked fillerTest
   filler-asked zero f h = refl
-  filler-asked (suc d) f h = sets-asked d (filler-asked d) (fillerSet a (fillerFrom f)) (fillerSet a (fillerFrom h))
+  filler-asked (suc d) f h = each-asked d (filler-asked d) (fillerSet a (fillerFrom f)) (fillerSet a (fillerFrom h))

@@ -27,9 +27,9 @@ use Rattle.table.specs.LayoutLaws.{layout, line-inside}
 use Rattle.order.specs.Rule.{entrySet, unionTo, leftSet, setTest, fillerTest, leftTest, lineTest}
 use Rattle.order.specs.RuleLaws.{left-union, line-rule}
 use Rattle.order.specs.Given.{entryFrom, EntryFits, Asking, LineBegins, LineGiven}
-use Rattle.order.specs.Asked.{setsAsk, fillerAsked}
+use Rattle.order.specs.Asked.{missing, eachAsk, fillerAsked}
 use Rattle.order.proofs.CodeLaws.{filler-more, entry-more, entry-read}
-use Rattle.order.proofs.AskedLaws.{filler-asked, sets-asked}
+use Rattle.order.proofs.AskedLaws.{filler-asked, each-asked}
 
 pub few-atoms : (s : List ℕ) (c e : ℕ) → T (isReadable (reading s)) → c ≡ headerOf s .c → e ≡ headerOf s .e → c + e ≤ maxAtoms
 few-atoms s c e ok p q = let h : headerOf s .c + headerOf s .e ≤ maxAtoms = layout s ok .few-atoms in omega arith
@@ -100,9 +100,9 @@ pub line-asked : (s over inner : List ℕ) (a : Assignment) (c e v at : ℕ) →
     → ((n : ℕ) → n < headerOf s .m → at ≡ lineStart s n → L ≡ leftSet (tableOf s) a (lineAt (tableOf s .lines) n .left))
     → ((t : Table) → c ≡ t .constants → R ≡ entrySet t a (entryFrom (byteAt s (at + 1 + p))))
     → (n : ℕ) → n < headerOf s .m → at ≡ lineStart s n
-    → setsAsk over inner a c e (fillerAsked over inner a c e v) L R ≡ holds (roleOrder (tableOf s)) (tableOf s .rows) (induced (tableOf s) a) (lineAt (tableOf s .lines) n)
+    → eachAsk over inner a c e (fillerAsked over inner a c e v) L (missing L R) ≡ holds (roleOrder (tableOf s)) (tableOf s .rows) (induced (tableOf s) a) (lineAt (tableOf s .lines) n)
 line-asked s over inner a c e v at g p L R many union set n few begins =
-    sets-asked s over inner a c e v at g v (filler-asked s over inner a c e v at g v) L R
+    each-asked s over inner a c e v at g v (filler-asked s over inner a c e v at g v) L R
     ∙ allBelow-same (atoms (tableOf s)) (λ j. not (bit j R) || setTest (roleOrder (tableOf s)) (tableOf s) (fillerTest (roleOrder (tableOf s)) (tableOf s) a v) L j) (λ j. not (bit j R) || leftTest (roleOrder (tableOf s)) (tableOf s) a (line .left) j) (λ j h. ap (λ b. not (bit j R) || b) (sym (left j)))
     ∙ ap (λ (S : ℕ). allBelow (atoms (tableOf s)) (λ j. not (bit j S) || leftTest (roleOrder (tableOf s)) (tableOf s) a (line .left) j)) right
     ∙ opened line

@@ -3,9 +3,9 @@
 --   anyIn m n q               == some number below n that is a bit of the mask m passes q
 --   missing L R               == the atoms that R has and L has not
 --   setAsk fb S j             == the conjunction of the set S lies below atom j, where fb answers for codes of fillers
---   setsAsk fb L R            == the conjunction of the set L lies below every atom of R that L has not
+--   eachAsk fb L M            == the conjunction of the set L lies below every atom of M
 --   fillerAsked d f g         == the filler of the code f lies below the filler of the code g, where d dependences are left
---   setAsked d S j, setsAsked d L R == the first two, where d dependences are left
+--   setAsked d S j, eachAsked d L M == the first two, where d dependences are left
 use mathlib.Core.Bool.{Bool, true, false, _&&_, not}
 use mathlib.Core.List.{List}
 use Prim.Native.Nat.{ℕ, zero, suc, _+_, _-_, _/_, _^_}
@@ -31,15 +31,15 @@ module _ (over inner : List ℕ) (a : Assignment) (c e : ℕ) where
         | false ↦ anyIn (bitAnd (S / 2 ^ c) (getD over (j - c) 0)) e (λ k. fb (getD inner k 0) (getD inner (j - c) 0))
       ]
 
-  unfoldable pub setsAsk : (ℕ → ℕ → Bool) → ℕ → ℕ → Bool
-  setsAsk fb L R = not (anyIn (missing L R) (c + e) (λ j. not (setAsk fb L j)))
+  unfoldable pub eachAsk : (ℕ → ℕ → Bool) → ℕ → ℕ → Bool
+  eachAsk fb L M = not (anyIn M (c + e) (λ j. not (setAsk fb L j)))
 
   unfoldable pub fillerAsked : ℕ → ℕ → ℕ → Bool
   fillerAsked zero f g = flatTest (fillerFrom f) (fillerFrom g)
-  fillerAsked (suc d) f g = setsAsk (fillerAsked d) (fillerSet a (fillerFrom f)) (fillerSet a (fillerFrom g))
+  fillerAsked (suc d) f g = eachAsk (fillerAsked d) (fillerSet a (fillerFrom f)) (missing (fillerSet a (fillerFrom f)) (fillerSet a (fillerFrom g)))
 
   abbrev pub setAsked : ℕ → ℕ → ℕ → Bool
   setAsked d = setAsk (fillerAsked d)
 
-  abbrev pub setsAsked : ℕ → ℕ → ℕ → Bool
-  setsAsked d = setsAsk (fillerAsked d)
+  abbrev pub eachAsked : ℕ → ℕ → ℕ → Bool
+  eachAsked d = eachAsk (fillerAsked d)

@@ -3,11 +3,13 @@
 // Given are the rows of a readable table as two small tables (`over`: which rows' roles lie under row j's; `inner`: the codes of the
 // fillers), its counts c, e and v, and the set number of each variable. The questions ask each other: whether a conjunction, given as a
 // set number, lies below one atom; whether it lies below every atom of another; and whether one filler lies below another. Each time
-// round one dependence less is left.
+// round one dependence less is left. An atom that both sets have lies below itself, so only the missing ones are asked; a missing
+// constant decides at once, so restrictions are left.
 use bounds::RowMask;
 use bounds::SetNumber;
 use table::Kind;
 ghost use mathlib.Core.Path.{_≡_};
+ghost use mathlib.Core.Bool.{false};
 ghost use Prim.Native.Nat.{ℕ, _+_, _≤_, _<_};
 ghost use lib.Dec.{T};
 ghost use lib.ListN.{length};
@@ -20,7 +22,7 @@ ghost use Rattle.table.specs.Reading.{headerOf, isReadable, reading, tableOf};
 ghost use Rattle.table.specs.Layout.{lineAt, lineStart};
 ghost use Rattle.order.specs.Rule.{isConstant, flatTest, fillerSet, entrySet, leftSet};
 ghost use Rattle.order.specs.Given.{fillerFrom, entryFrom, FillerFits, EntryFits, Over, RowsGiven, SetsGiven, Asking, LineGiven, LineBegins};
-ghost use Rattle.order.specs.Asked.{setAsked, setsAsked, fillerAsked};
+ghost use Rattle.order.specs.Asked.{setAsked, eachAsked, fillerAsked};
 
 // The rows of a table for the line test: bit k of `over[j]` says that row k's role lies under row j's, and `inner[k]` is the code of row k's
 // filler.
@@ -167,25 +169,20 @@ fn set_below(
     false
 }
 
-// The conjunction of the set `left` lies below every atom of the set `right`. An atom that both have lies below itself, so only the
-// missing ones are asked: a constant decides at once, so restrictions are left.
-fn sets_below(
+// The conjunction of the set `left` lies below every atom of the set `missing`, which has no constant.
+fn each_below(
     over: &[RowMask],
     inner: &[u8],
     set: &[SetNumber],
     c: usize,
     e: usize,
     left: SetNumber,
-    right: SetNumber,
+    missing: SetNumber,
     depth: usize,
 ) -> bool
-    requires { ⌜ Asking (now over) (now inner) (now set) c e ⌝ }
-    ensures { λ r. ⌜ r ≡ setsAsked (now (over .entry)) (now (inner .entry)) (now (set .entry)) c e depth left right ⌝ }
+    requires { ⌜ Asking (now over) (now inner) (now set) c e × (anyBelow c (λ j. bit j missing) ≡ false) ⌝ }
+    ensures { λ r. ⌜ r ≡ eachAsked (now (over .entry)) (now (inner .entry)) (now (set .entry)) c e depth left missing ⌝ }
 {
-    let missing = right ^ (right & left);
-    if lacks_constant(missing, c) {
-        return false;
-    }
     let mut j = c;
     while j < c + e {
         let rest = missing >> j;
@@ -221,7 +218,14 @@ fn filler_below(
     }
     let left = filler_set(set, f);
     let right = filler_set(set, g);
-    sets_below(over, inner, set, c, e, left, right, depth - 1)
+    let missing = right ^ (right & left);
+    if missing == 0 {
+        return true;
+    }
+    if lacks_constant(missing, c) {
+        return false;
+    }
+    each_below(over, inner, set, c, e, left, missing, depth - 1)
 }
 
 // The set of the left side of the line that begins at the byte `at`: the union of its entries' sets.
@@ -256,5 +260,12 @@ pub fn line_holds(
     let p = table::wide(table[at]);
     let left = left_set(table, set, c, at);
     let right = entry_set(set, c, table[at + 1 + p]);
-    sets_below(over, inner, set, c, e, left, right, v)
+    let missing = right ^ (right & left);
+    if missing == 0 {
+        return true;
+    }
+    if lacks_constant(missing, c) {
+        return false;
+    }
+    each_below(over, inner, set, c, e, left, missing, v)
 }

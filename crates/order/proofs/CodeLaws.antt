@@ -6,17 +6,18 @@
 --   set-.., entry-..                    == the set of a filler's, an entry's code, by its kind
 --   constant-kind, flat-kind            == the flat test, by the kinds of the codes
 use mathlib.Core.Path.{_≡_, sym, ap, ap₂, _∙_}
-use mathlib.Core.Option.{Option, some, Option·none-ne-some}
+use mathlib.Core.Option.{some}
 use Prim.Native.Nat.{ℕ, _+_, _*_, _%_, _^_, _≤_, _<_}
 use native.Mathlib.Omega.{arith}
+use lib.Dec.{lt→ltb}
 use lib.ListN.{length, getD}
 use Rattle.bounds.specs.Bounds.{maxAtoms, maxVariables, setBits, setNumbers}
 use Rattle.el.specs.Table.{Filler, topF, constantF, variableF, Entry, constant, restriction, variable, Table}
 use Rattle.el.specs.Assignment.{Assignment, setOf}
 use Rattle.table.specs.declared.Kind.{Kind}
 use Rattle.table.specs.declared.Kind.the-variants.{Top, Constant, Restriction, Variable, Other}
-use Rattle.table.specs.Code.{kindOf, within, fillerOf, fillerOfKind, entryOf, entryOfKind}
-use Rattle.table.specs.CodeLaws.{within-some, within-is}
+use Rattle.table.specs.Code.{kindOf, fillerOf, fillerOfKind, entryOf, entryOfKind, WritesFiller, fills-top, fills-constant, fills-variable, WritesEntry, enters-constant, enters-restriction, enters-variable}
+use Rattle.table.specs.CodeLaws.{within-some, within-is, filler-writes, entry-writes}
 use Rattle.order.specs.BitLaws.{power-fits}
 use Rattle.order.specs.Rule.{fillerSet, entrySet, isConstant, flatTest}
 use Rattle.order.specs.Given.{fillerFromKind, fillerFrom, entryFromKind, entryFrom, FillerFits, EntryFits, SetsGiven}
@@ -24,54 +25,41 @@ use Rattle.order.specs.Given.{fillerFromKind, fillerFrom, entryFromKind,
 ----------------------------------------------------------------------------------------------------
 -- What a code says, and that it is declared
 
-kind-filler : (c v : ℕ) (k : Kind) (f : Filler) → fillerOfKind c v k ≡ some f → fillerFromKind k ≡ f
-unfolding fillerOfKind
-kind-filler c v Top f q = cc
-kind-filler c v (Constant k) f q = within-some k c (constantF k) f q .1
-kind-filler c v (Restriction k) f q = absurd (Option·none-ne-some f q)
-kind-filler c v (Variable k) f q = within-some k v (variableF k) f q .1
-kind-filler c v Other f q = absurd (Option·none-ne-some f q)
-
-kind-entry : (c e v : ℕ) (k : Kind) (x : Entry) → entryOfKind c e v k ≡ some x → entryFromKind k ≡ x
-unfolding entryOfKind
-kind-entry c e v Top x q = absurd (Option·none-ne-some x q)
-kind-entry c e v (Constant k) x q = within-some k c (constant k) x q .1
-kind-entry c e v (Restriction k) x q = within-some k e (restriction k) x q .1
-kind-entry c e v (Variable k) x q = within-some k v (variable k) x q .1
-kind-entry c e v Other x q = absurd (Option·none-ne-some x q)
-
 pub filler-read : (c v b : ℕ) (f : Filler) → fillerOf c v b ≡ some f → fillerFrom b ≡ f
-unfolding fillerOf fillerFrom
-filler-read c v b f q = kind-filler c v (kindOf b) f q
+unfolding fillerFrom
+filler-read c v b f q = go (filler-writes c v b f q)
+  where
+    go : {f : Filler} → WritesFiller c v b f → fillerFromKind (kindOf b) ≡ f
+    go (fills-top i) = ap fillerFromKind i
+    go (fills-constant k i l) = ap fillerFromKind i
+    go (fills-variable k i l) = ap fillerFromKind i
 
 pub entry-read : (c e v b : ℕ) (x : Entry) → entryOf c e v b ≡ some x → entryFrom b ≡ x
-unfolding entryOf entryFrom
-entry-read c e v b x q = kind-entry c e v (kindOf b) x q
-
-within-more : {A : Type 0} (k n m : ℕ) (a x : A) → n ≤ m → within k n a ≡ some x → within k m a ≡ some x
-within-more k n m a x l q = let w = within-some k n a x q in let h : k < n = w .0 in within-is k m a (omega arith) ∙ ap some (w .1)
+unfolding entryFrom
+entry-read c e v b x q = go (entry-writes c e v b x q)
+  where
+    go : {x : Entry} → WritesEntry c e v b x → entryFromKind (kindOf b) ≡ x
+    go (enters-constant k i l) = ap entryFromKind i
+    go (enters-restriction k i l) = ap entryFromKind i
+    go (enters-variable k i l) = ap entryFromKind i
 
 pub filler-more : (c v : ℕ) → c ≤ maxAtoms → v ≤ maxVariables → (b : ℕ) (f : Filler) → fillerOf c v b ≡ some f → FillerFits b
-unfolding FillerFits fillerOf
-filler-more c v l m b f q = go (kindOf b) q ∙ ap some (sym (filler-read c v b f (unfold fillerOf in q)))
+unfolding FillerFits fillerOf fillerOfKind
+filler-more c v h m b f q = go (filler-writes c v b f q) ∙ ap some (sym (filler-read c v b f q))
   where
-    go : (k : Kind) → fillerOfKind c v k ≡ some f → fillerOfKind maxAtoms maxVariables k ≡ some f
-    go Top = unfold fillerOfKind in λ p. p
-    go (Constant k) = unfold fillerOfKind in within-more k c maxAtoms (constantF k) f l
-    go (Restriction k) = unfold fillerOfKind in λ p. p
-    go (Variable k) = unfold fillerOfKind in within-more k v maxVariables (variableF k) f m
-    go Other = unfold fillerOfKind in λ p. p
+    go : {f : Filler} → WritesFiller c v b f → fillerOf maxAtoms maxVariables b ≡ some f
+    go (fills-top i) = ap (fillerOfKind maxAtoms maxVariables) i
+    go (fills-constant k i l) = ap (fillerOfKind maxAtoms maxVariables) i ∙ within-is k maxAtoms (constantF k) (lt→ltb k maxAtoms (omega arith))
+    go (fills-variable k i l) = ap (fillerOfKind maxAtoms maxVariables) i ∙ within-is k maxVariables (variableF k) (lt→ltb k maxVariables (omega arith))
 
 pub entry-more : (c e v : ℕ) → c + e ≤ maxAtoms → v ≤ maxVariables → (b : ℕ) (x : Entry) → entryOf c e v b ≡ some x → EntryFits c b
-unfolding EntryFits entryOf
-entry-more c e v l m b x q = (e, l, go (kindOf b) q ∙ ap some (sym (entry-read c e v b x (unfold entryOf in q))))
+unfolding EntryFits entryOf entryOfKind
+entry-more c e v h m b x q = (e, h, go (entry-writes c e v b x q) ∙ ap some (sym (entry-read c e v b x q)))
   where
-    go : (k : Kind) → entryOfKind c e v k ≡ some x → entryOfKind c e maxVariables k ≡ some x
-    go Top = unfold entryOfKind in λ p. p
-    go (Constant k) = unfold entryOfKind in λ p. p
-    go (Restriction k) = unfold entryOfKind in λ p. p
-    go (Variable k) = unfold entryOfKind in within-more k v maxVariables (variable k) x m
-    go Other = unfold entryOfKind in λ p. p
+    go : {x : Entry} → WritesEntry c e v b x → entryOf c e maxVariables b ≡ some x
+    go (enters-constant k i l) = ap (entryOfKind c e maxVariables) i ∙ within-is k c (constant k) (lt→ltb k c l)
+    go (enters-restriction k i l) = ap (entryOfKind c e maxVariables) i ∙ within-is k e (restriction k) (lt→ltb k e l)
+    go (enters-variable k i l) = ap (entryOfKind c e maxVariables) i ∙ within-is k maxVariables (variable k) (lt→ltb k maxVariables (omega arith))
 
 -- the number w that a code's kind holds fits a shift, or is a place among the sets
 module _ (b k w : ℕ) (same : w ≡ k) where

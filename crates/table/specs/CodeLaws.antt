@@ -86,7 +86,7 @@ within-some k n a x q = go (ltb k n) refl q
     go true e q = (ltb-true k n e, cc)
     go false e q = absurd (Option·none-ne-some x q)
 
-within-is : {A : Type 0} (k n : ℕ) (a : A) → T (ltb k n) → within k n a ≡ some a
+pub within-is : {A : Type 0} (k n : ℕ) (a : A) → T (ltb k n) → within k n a ≡ some a
 unfolding within
 within-is k n a l = rw (is-true (ltb k n) l)
 

@@ -8,7 +8,6 @@
 --   RowsTo s n over inner      == the same as RowsGiven, of the first n rows
 --   SetsGiven a                == a has a set for each variable that a table may have
 --   Asking over inner a c e    == e prepared rows of some table with c constants, within the bounds, and sets
---   LineBegins s at            == a line of the table s begins at the byte `at`
 --   LineGiven s over inner a c e v at == s is a readable table with the counts c, e and v and these rows, a is acyclic, a line begins at the byte `at`
 use mathlib.Core.Path.{_≡_}
 use mathlib.Core.Bool.{Bool, _&&_}
@@ -25,7 +24,7 @@ use Rattle.table.specs.declared.Kind.{Kind}
 use Rattle.table.specs.declared.Kind.the-variants.{Top, Constant, Restriction, Variable, Other}
 use Rattle.table.specs.Code.{kindOf, fillerOf, entryOf}
 use Rattle.table.specs.Reading.{reading, isReadable, tableOf, headerOf}
-use Rattle.table.specs.Layout.{lineStart, IsRowFiller}
+use Rattle.table.specs.Layout.{IsRowFiller, LineBegins}
 
 abbrev pub fillerFromKind : Kind → Filler
 fillerFromKind Top = topF
@@ -78,11 +77,6 @@ pub record Asking (over inner : List ℕ) (a : Assignment) (c e : ℕ) : Type 0 
   pub inner-many : length inner ≡ maxAtoms
   pub sets : SetsGiven a
   pub fits : (k : ℕ) → k < e → FillerFits (getD inner k 0)
-
-pub record LineBegins (s : List ℕ) (at : ℕ) : Type 0 where
-  pub number : ℕ
-  pub few : number < headerOf s .m
-  pub begins : at ≡ lineStart s number
 
 pub record LineGiven (s over inner : List ℕ) (a : Assignment) (c e v at : ℕ) : Type 0 where
   pub readable : T (isReadable (reading s))

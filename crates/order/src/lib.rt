@@ -10,7 +10,7 @@ use bounds::SetNumber;
 use table::Kind;
 ghost use mathlib.Core.Path.{_≡_};
 ghost use mathlib.Core.Bool.{false};
-ghost use Prim.Native.Nat.{ℕ, _+_, _≤_, _<_};
+ghost use Prim.Native.Nat.{_+_, _<_};
 ghost use lib.Dec.{T};
 ghost use lib.ListN.{length};
 ghost use Rattle.bounds.specs.Bounds.{maxAtoms, setBits};
@@ -19,9 +19,9 @@ ghost use Rattle.el.specs.Test.{anyBelow, bit};
 ghost use Rattle.el.specs.Assignment.{induced};
 ghost use Rattle.el.specs.Meaning.{holds};
 ghost use Rattle.table.specs.Reading.{headerOf, isReadable, reading, tableOf};
-ghost use Rattle.table.specs.Layout.{lineAt, lineStart};
+ghost use Rattle.table.specs.Layout.{LineBegins, AtLine};
 ghost use Rattle.order.specs.Rule.{isConstant, flatTest, fillerSet, entrySet, leftSet};
-ghost use Rattle.order.specs.Given.{fillerFrom, entryFrom, FillerFits, EntryFits, Over, RowsGiven, SetsGiven, Asking, LineGiven, LineBegins};
+ghost use Rattle.order.specs.Given.{fillerFrom, entryFrom, FillerFits, EntryFits, Over, RowsGiven, SetsGiven, Asking, LineGiven};
 ghost use Rattle.order.specs.Asked.{setAsked, eachAsked, fillerAsked};
 
 // The rows of a table for the line test: bit k of `over[j]` says that row k's role lies under row j's, and `inner[k]` is the code of row k's
@@ -231,13 +231,13 @@ fn filler_below(
 // The set of the left side of the line that begins at the byte `at`: the union of its entries' sets.
 fn left_set(table: &[u8], set: &[SetNumber], c: usize, at: usize) -> SetNumber
     requires { ⌜ T (isReadable (reading (now table))) × (c ≡ headerOf (now table) .c) × SetsGiven (now set) × LineBegins (now table) at ⌝ }
-    ensures { λ r. ⌜ ((n : ℕ) → n < headerOf (now (table .entry)) .m → at ≡ lineStart (now (table .entry)) n → r ≡ leftSet (tableOf (now (table .entry))) (now (set .entry)) (lineAt (tableOf (now (table .entry)) .lines) n .left)) ⌝ }
+    ensures { λ r. ⌜ AtLine (now (table .entry)) at (λ l. r ≡ leftSet (tableOf (now (table .entry))) (now (set .entry)) (l .left)) ⌝ }
 {
-    let p = table::wide(table[at]);
+    let p = table::left_count(table, at);
     let mut left: SetNumber = 0;
     let mut i = 0;
     while i < p {
-        left = left | entry_set(set, c, table[at + 1 + i]);
+        left = left | entry_set(set, c, table::left_code(table, at, i));
         i += 1;
     }
     left
@@ -255,11 +255,10 @@ pub fn line_holds(
     at: usize,
 ) -> bool
     requires { ⌜ LineGiven (now table) (now over) (now inner) (now set) c e v at ⌝ }
-    ensures { λ r. ⌜ ((n : ℕ) → n < headerOf (now (table .entry)) .m → at ≡ lineStart (now (table .entry)) n → r ≡ holds (roleOrder (tableOf (now (table .entry)))) (tableOf (now (table .entry)) .rows) (induced (tableOf (now (table .entry))) (now (set .entry))) (lineAt (tableOf (now (table .entry)) .lines) n)) ⌝ }
+    ensures { λ r. ⌜ AtLine (now (table .entry)) at (λ l. r ≡ holds (roleOrder (tableOf (now (table .entry)))) (tableOf (now (table .entry)) .rows) (induced (tableOf (now (table .entry))) (now (set .entry))) l) ⌝ }
 {
-    let p = table::wide(table[at]);
     let left = left_set(table, set, c, at);
-    let right = entry_set(set, c, table[at + 1 + p]);
+    let right = entry_set(set, c, table::right_code(table, at));
     let missing = right ^ (right & left);
     if missing == 0 {
         return true;

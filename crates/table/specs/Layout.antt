@@ -3,6 +3,9 @@
 --   lineAt lines n == line n
 --   lineStart s n  == the byte where line n begins
 --   IsRowFiller s k b == the code b writes the filler of row k
+--   IsEntryCode s x b == the code b writes the entry x
+--   LineBegins s at   == a line begins at the byte `at`
+--   AtLine s at P     == P is true of the line that begins there
 --   Layout s t     == the bytes s lie as the table t says
 use mathlib.Core.Path.{_≡_}
 use mathlib.Core.List.{List, []}
@@ -10,7 +13,7 @@ use mathlib.Core.Option.{some}
 use Prim.Native.Nat.{ℕ, zero, suc, _+_, _≤_, _<_}
 use lib.Dec.{T}
 use lib.ListN.{length, getD}
-use Rattle.el.specs.Table.{constant, Line, Table, rowAt, declared}
+use Rattle.el.specs.Table.{Entry, constant, Line, Table, rowAt, declared}
 use Rattle.table.specs.Code.{fillerOf, entryOf}
 use Rattle.bounds.specs.Bounds.{maxAtoms, maxRoles, maxVariables, maxLines, maxLeft}
 use Rattle.table.specs.Reading.{byteAt, headerLength, headerOf, rowStart, fillerPlace, tableOf}
@@ -24,6 +27,17 @@ lineStart s (suc n) = lineStart s n + byteAt s (lineStart s n) + 2
 
 unfoldable pub IsRowFiller : List ℕ → ℕ → ℕ → Type 0
 IsRowFiller s k b = fillerOf (headerOf s .c) (headerOf s .v) b ≡ some (rowAt (tableOf s .rows) k .filler)
+
+unfoldable pub IsEntryCode : List ℕ → Entry → ℕ → Type 0
+IsEntryCode s x b = entryOf (headerOf s .c) (headerOf s .e) (headerOf s .v) b ≡ some x
+
+pub record LineBegins (s : List ℕ) (at : ℕ) : Type 0 where
+  pub number : ℕ
+  pub few : number < headerOf s .m
+  pub begins : at ≡ lineStart s number
+
+abbrev pub AtLine : List ℕ → ℕ → (Line → Type 0) → Type 0
+AtLine s at P = (n : ℕ) → n < headerOf s .m → at ≡ lineStart s n → P (lineAt (tableOf s .lines) n)
 
 pub record Layout (s : List ℕ) (t : Table) : Type 0 where
   pub constants : t .constants ≡ headerOf s .c

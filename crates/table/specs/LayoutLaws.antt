@@ -5,7 +5,8 @@
 --   readable-header      == a reading's header and table are headerOf and tableOf
 --   refused-readable, readable-is == a verdict is one of the two, and where it is "readable" the reading is
 --   start-first, start-next == where the first line begins, and the next one
---   line-inside          == a line lies inside its table
+--   line-inside, begun-inside == a line lies inside its table
+--   left-many, left-within, left-writes, right-writes == what the bytes of a line say
 use mathlib.Core.Path.{_≡_, refl, sym, ap, subst, _∙_}
 use mathlib.Core.List.{List, []}
 use mathlib.Core.Option.{some}
@@ -29,7 +30,7 @@ use Rattle.table.specs.ManyLaws.{many-each}
 use Rattle.table.specs.ReadLaws.{row-read, entry-read, line-read, readable-read}
 use Rattle.table.specs.BytesLaws.{first-all, lines-there}
 use Rattle.table.specs.Step.{verdictOf}
-use Rattle.table.specs.Layout.{lineAt, lineStart, Layout}
+use Rattle.table.specs.Layout.{lineAt, lineStart, Layout, IsEntryCode, LineBegins, AtLine}
 
 -- a step of one byte, of two, of a line
 along-one : (at n : ℕ) → along (λ p. p + 1) at n ≡ at + n
@@ -166,3 +167,23 @@ start-next s n at p e q = ap (λ (k : ℕ). at + k + 2) q ∙ ap (λ (k : ℕ). 
 
 pub line-inside : (s : List ℕ) → T (isReadable (reading s)) → (n at : ℕ) → n < headerOf s .m → at ≡ lineStart s n → at + byteAt s at + 2 ≤ length s
 line-inside s ok n at few begins = subst (λ (k : ℕ). k + byteAt s k + 2 ≤ length s) (sym begins) (layout s ok .line-in n few)
+
+-- the line that begins at the byte `at`
+module _ (s : List ℕ) (ok : T (isReadable (reading s))) (at : ℕ) where
+  pub begun-inside : LineBegins s at → at + byteAt s at + 2 ≤ length s
+  begun-inside b = line-inside s ok (b .number) at (b .few) (b .begins)
+
+  pub left-many : AtLine s at (λ l. byteAt s at ≡ length (l .left))
+  left-many n few begins = ap (byteAt s) begins ∙ sym (layout s ok .line-left n few)
+
+  module _ (i : ℕ) (among : AtLine s at (λ l. i < length (l .left))) where
+    pub left-within : LineBegins s at → i < byteAt s at
+    left-within b = let m = left-many (b .number) (b .few) (b .begins) in let h = among (b .number) (b .few) (b .begins) in omega arith
+
+    pub left-writes : AtLine s at (λ l. IsEntryCode s (getD (l .left) i (constant 0)) (byteAt s (at + 1 + i)))
+    unfolding IsEntryCode
+    left-writes n few begins = rw begins (layout s ok .line-entry n i few (let m = layout s ok .line-left n few in let h = among n few begins in omega arith))
+
+  pub right-writes : (p : ℕ) → p ≡ byteAt s at → AtLine s at (λ l. IsEntryCode s (l .right) (byteAt s (at + 1 + p)))
+  unfolding IsEntryCode
+  right-writes p many n few begins = rw (many, begins) (layout s ok .line-right n few)

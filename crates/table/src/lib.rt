@@ -6,13 +6,13 @@
 ghost use mathlib.Core.Path.{_≡_};
 ghost use Prim.Native.Nat.{_≤_, _<_};
 ghost use lib.Dec.{T};
-ghost use lib.ListN.{length};
+ghost use lib.ListN.{length, getD};
 ghost use Rattle.table.specs.Code.{kindOf, fillerOf, entryOf};
 ghost use Rattle.bounds.specs.Bounds.{bounds};
 ghost use Rattle.table.specs.Reading.{headerLength, marked, versionOne, headerOf, readCounts, readHeader, readRow, readRows, readEntry, readEntries, readLine, readLines, readBody, reading, tableOf, isReadable};
 ghost use Rattle.table.specs.Step.{isSome, stepOf, verdictOf};
-ghost use Rattle.el.specs.Table.{rowAt};
-ghost use Rattle.table.specs.Layout.{lineStart, IsRowFiller};
+ghost use Rattle.el.specs.Table.{constant, rowAt};
+ghost use Rattle.table.specs.Layout.{lineStart, IsRowFiller, IsEntryCode, LineBegins, AtLine};
 use answer::Answer;
 use bounds::MAX_ATOMS;
 use bounds::MAX_LEFT;
@@ -344,4 +344,28 @@ pub fn filler_of(table: &[u8], k: usize) -> u8
     ensures { λ r. ⌜ IsRowFiller (now (table .entry)) k r ⌝ }
 {
     table[FILLER + 2 * k]
+}
+
+// How many left entries the line has that begins at the byte `at`.
+pub fn left_count(table: &[u8], at: usize) -> usize
+    requires { ⌜ T (isReadable (reading (now table))) × LineBegins (now table) at ⌝ }
+    ensures { λ r. ⌜ AtLine (now (table .entry)) at (λ l. r ≡ length (l .left)) ⌝ }
+{
+    wide(table[at])
+}
+
+// The code of its left entry i.
+pub fn left_code(table: &[u8], at: usize, i: usize) -> u8
+    requires { ⌜ T (isReadable (reading (now table))) × LineBegins (now table) at × AtLine (now table) at (λ l. i < length (l .left)) ⌝ }
+    ensures { λ r. ⌜ AtLine (now (table .entry)) at (λ l. IsEntryCode (now (table .entry)) (getD (l .left) i (constant 0)) r) ⌝ }
+{
+    table[at + 1 + i]
+}
+
+// The code of its right entry.
+pub fn right_code(table: &[u8], at: usize) -> u8
+    requires { ⌜ T (isReadable (reading (now table))) × LineBegins (now table) at ⌝ }
+    ensures { λ r. ⌜ AtLine (now (table .entry)) at (λ l. IsEntryCode (now (table .entry)) (l .right) r) ⌝ }
+{
+    table[at + 1 + wide(table[at])]
 }

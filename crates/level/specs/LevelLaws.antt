@@ -33,7 +33,6 @@ use lib.Seq.{take-suc-set, take-suc, take-set-le, getD-take, length-take-le, get
 use borrow.Author.Tests.{eq-eqb, ne-eqb, lt-ltb, le-ltb}
 use Rattle.el.specs.Test.{anyBelow, allBelow, anyOf, bit}
 use Rattle.el.specs.TestLaws.{is-true, is-false, true-is, false-not, same-test, or-left, or-right, or-cases, and-make, and-left, and-right, anyBelow-hit, anyBelow-found, anyBelow-next, anyBelow-same, anyBelow-step, anyBelow-true-at, anyBelow-none, allBelow-all, allBelow-at, anyOf-append, anyOf-hit, anyOf-found, bit-none}
-use Rattle.el.specs.Description.{sameRole}
 use Rattle.el.specs.Table.{Line, Table, declared, roleOrder}
 use Rattle.el.specs.Meaning.{holds}
 use Rattle.el.specs.Assignment.{setOf, depends, reaches, acyclic, induced}
@@ -638,7 +637,7 @@ module _ (s : List ℕ) (c e v m : ℕ) (sets : Sets) (given : NodeGiven s c e v
         unfolding Tells
         dead-open h =
             let f = is .leaving own .0 h in
-            as-child false (child-open (tableOf s) known-table parent own sameRole parent-live no-new straight (f .0) (f .1) (f .2))
+            as-child false (child-open (tableOf s) known-table parent own (roleOrder (tableOf s)) parent-live no-new straight (f .0) (f .1) (f .2))
 
         module _ (low : bitAnd own (level .leaving) ≡ 0) where
           closed : (w : ℕ) → T (newly (tableOf s) parent own w) → w ≤ length parent
@@ -678,7 +677,7 @@ module _ (s : List ℕ) (c e v m : ℕ) (sets : Sets) (given : NodeGiven s c e v
           dead-fresh =
               listed-any ∙ ap (anyOf fail) (is .lines .numbers) ∙ passing-any (λ n. freshly (tableOf s) parent (lineAt (tableOf s .lines) n)) fail m
               ∙ lines-any
-              ∙ sym (ap (dead (roleOrder (tableOf s)) (tableOf s)) node-child ∙ child-dead (tableOf s) known-table parent own sameRole parent-live no-new straight closed)
+              ∙ sym (ap (dead (roleOrder (tableOf s)) (tableOf s)) node-child ∙ child-dead (tableOf s) known-table parent own (roleOrder (tableOf s)) parent-live no-new straight closed)
             where
               fail : ℕ → Bool
               fail n = failsAt s (sets .set) n

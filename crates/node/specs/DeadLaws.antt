@@ -19,7 +19,6 @@ use lib.Bits.{bitAnd}
 use borrow.Author.Tests.{eq-eqb, ne-eqb}
 use Rattle.el.specs.Test.{anyBelow, anyOf}
 use Rattle.el.specs.TestLaws.{anyBelow-step, anyBelow-true-at, anyOf-places, everyOf-all}
-use Rattle.el.specs.Description.{sameRole}
 use Rattle.el.specs.Table.{constant, Line, Table, roleOrder}
 use Rattle.el.specs.Meaning.{holds}
 use Rattle.el.specs.Assignment.{Assignment, setOf, acyclic, induced}
@@ -71,7 +70,7 @@ module _ (t : Table) (s : Node) where
 pub same-holds : (t : Table) (a b : Assignment) → ((x : ℕ) → setOf a x ≡ setOf b x) → (l : Line)
     → holds (roleOrder t) (t .rows) (induced t a) l ≡ holds (roleOrder t) (t .rows) (induced t b) l
 same-holds t a b same l =
-    line-same (t .rows) (λ x. true) (induced t a) (induced t b) (λ x u. induced-same t a b same x) sameRole l
+    line-same (t .rows) (λ x. true) (induced t a) (induced t b) (λ x u. induced-same t a b same x) (roleOrder t) l
     (everyOf-all (λ x. true) (lineVariables (t .rows) l) 0 (λ i h. tt))
 
 module _ (t : Table) (s : Node) (l : Line) (own k : ℕ) (is : Masks (isAmong (lineVariables (t .rows) l)) own) (of : Masks (settled t s) k) where

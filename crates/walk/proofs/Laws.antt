@@ -29,8 +29,7 @@ use native.Mathlib.Omega.{arith}
 use native.Mathlib.Decide.{ℕ-discrete}
 use lib.ListN.{length, getD, take, set, replicate, length-set}
 use lib.Seq.{getD-set-same, getD-set-other, take-set-le, set-getD, set-set}
-use Rattle.el.specs.Description.{sameRole}
-use Rattle.el.specs.Table.{Table, atoms}
+use Rattle.el.specs.Table.{Table, atoms, roleOrder}
 use lib.Dec.{T}
 use lib.Pow.{pow-mono, pow-pos}
 use borrow.Author.Tests.{eq-eqb, ne-eqb}
@@ -66,7 +65,7 @@ HasEnded Over = Unit {0}
 ended-off : (g : Going) → HasEnded g → g ≡ On → ⊥
 ended-off g h e = subst HasEnded e h
 
-leads-on : (t : Table) (i n : ℕ) (l m : List Node) (g : Going) (to : Sets) → Moves (ends sameRole t) i l m → Leads t m n g to → Leads t l (i + n) g to
+leads-on : (t : Table) (i n : ℕ) (l m : List Node) (g : Going) (to : Sets) → Moves (ends (roleOrder t) t) i l m → Leads t m n g to → Leads t l (i + n) g to
 leads-on t i n l m Solved to a k = let e : n ≡ k .0 + 1 = k .1 in (i + k .0, omega arith, moves-on a (k .2), k .3)
 leads-on t i n l m On to a k = moves-on a k
 leads-on t i n l m Over to a k = (moves-on a (k .0), k .1)
@@ -80,7 +79,7 @@ keeps-on p q = record { in-range = λ r. q .in-range (p .in-range r); live-above
 pub keeps-sound : {t : Table} {from to : Sets} → Keeps t from to → Sound t from → Sound t to
 keeps-sound p sound = record { in-range = p .in-range (sound .in-range); live-above = p .live-above (sound .live-above) }
 
-goes-on : {t : Table} {i n : ℕ} {l m : List Node} {from mid : Sets} {g : Going} {to : Sets} → Moves (ends sameRole t) i l m → Keeps t from mid → Goes t m n mid g to → Goes t l (i + n) from g to
+goes-on : {t : Table} {i n : ℕ} {l m : List Node} {from mid : Sets} {g : Going} {to : Sets} → Moves (ends (roleOrder t) t) i l m → Keeps t from mid → Goes t m n mid g to → Goes t l (i + n) from g to
 goes-on {t} {i} {n} {l} {m} {g = g} {to} a keeps goes = record { leads = leads-on t i n l m g to a (goes .leads); keeps = keeps-on keeps (goes .keeps) }
 
 -- what a step says, where it is known where it goes
@@ -100,7 +99,7 @@ set-within a i y w k h l f x q = go (ℕ-discrete x i)
 module _ (t : Table) (a : List ℕ) (k : ℕ) (some : 0 < k) (fits : k ≤ length a) where
   live-set : (y j : ℕ) → j ≤ k → LiveAboveAt t a k → LiveAboveAt t (set a (k - 1) y) j
   unfolding LiveAboveAt
-  live-set y j h f i l = ap (dead sameRole t) (take-set-le i a (k - 1) y (omega arith)) ∙ f i (omega arith)
+  live-set y j h f i l = ap (dead (roleOrder t) t) (take-set-le i a (k - 1) y (omega arith)) ∙ f i (omega arith)
 
   keeps-sibling : (y : ℕ) → y < 2 ^ atoms t → KeepsAt t a k (set a (k - 1) y) k
   keeps-sibling y h =
@@ -133,7 +132,7 @@ module _ (t : Table) (a₀ : List ℕ) (k₀ : ℕ) (a : List ℕ) (k : ℕ) (cl
     pub climbs-up : last ≤ getD a (k - 1) 0 → Climbs t a₀ k₀ (set a (k - 1) 0) (k - 1)
     climbs-up h =
         record {
-          same = climbs .same ∙ (unfold after in afterwards-miss (dead sameRole t) (2 ^ atoms t) (t .variables) a k some (omega arith));
+          same = climbs .same ∙ (unfold after in afterwards-miss (dead (roleOrder t) t) (2 ^ atoms t) (t .variables) a k some (omega arith));
           keeps = keeps-on (climbs .keeps) (keeps-up t a k some fits);
         }
 
@@ -141,7 +140,7 @@ module _ (t : Table) (a₀ : List ℕ) (k₀ : ℕ) (a : List ℕ) (k : ℕ) (cl
     next-sibling h =
         record {
           goes = record {
-            leads = moves-none (climbs .same ∙ (unfold after rest in afterwards-hit (dead sameRole t) (2 ^ atoms t) (t .variables) a k some fits (omega arith)));
+            leads = moves-none (climbs .same ∙ (unfold after rest in afterwards-hit (dead (roleOrder t) t) (2 ^ atoms t) (t .variables) a k some fits (omega arith)));
             keeps = keeps-on (climbs .keeps) (keeps-sibling t a k some fits (getD a (k - 1) 0 + 1) (omega arith));
           };
           parent = λ _. some;
@@ -151,7 +150,7 @@ module _ (t : Table) (a₀ : List ℕ) (k₀ : ℕ) (a : List ℕ) (k : ℕ) (cl
   next-none e =
       record {
         goes = record {
-          leads = (moves-none (climbs .same ∙ (unfold after in afterwards-end (dead sameRole t) (2 ^ atoms t) (t .variables) a k e)), refl);
+          leads = (moves-none (climbs .same ∙ (unfold after in afterwards-end (dead (roleOrder t) t) (2 ^ atoms t) (t .variables) a k e)), refl);
           keeps = subst (KeepsAt t a₀ k₀ a) e (climbs .keeps);
         };
         parent = λ o. absurd (ended-off Over tt o);
@@ -161,15 +160,15 @@ module _ (t : Table) (a₀ : List ℕ) (k₀ : ℕ) (a : List ℕ) (k : ℕ) (cl
 -- Examining the node (take k a)
 
 module _ (t : Table) (s : Node) where
-  ends-dead : dead sameRole t s ≡ true → ends sameRole t s ≡ false
+  ends-dead : dead (roleOrder t) t s ≡ true → ends (roleOrder t) t s ≡ false
   unfolding ends
   ends-dead e = rw e
 
-  ends-live : dead sameRole t s ≡ false → length s ≡ t .variables → ends sameRole t s ≡ true
+  ends-live : dead (roleOrder t) t s ≡ false → length s ≡ t .variables → ends (roleOrder t) t s ≡ true
   unfolding ends full
   ends-live e h = rw (e, eq-eqb (length s) (t .variables) h)
 
-  ends-part : dead sameRole t s ≡ false → (length s ≡ t .variables → ⊥) → ends sameRole t s ≡ false
+  ends-part : dead (roleOrder t) t s ≡ false → (length s ≡ t .variables → ⊥) → ends (roleOrder t) t s ≡ false
   unfolding ends full
   ends-part e h = rw (e, ne-eqb (length s) (t .variables) h)
 
@@ -177,7 +176,7 @@ module _ (t : Table) (sets : Sets) where
   pub looks-dead : (step : Step) → deadAt t sets ≡ true → Next t sets step → Looks t sets step
   unfolding deadAt
   looks-dead step e next =
-      let q : rest t sets ≡ nodeOf sets ∷ after t sets = unfold rest after nodeOf in remaining-gone (dead sameRole t) (2 ^ atoms t) (t .variables) (sets .set) (sets .chosen) e in
+      let q : rest t sets ≡ nodeOf sets ∷ after t sets = unfold rest after nodeOf in remaining-gone (dead (roleOrder t) t) (2 ^ atoms t) (t .variables) (sets .set) (sets .chosen) e in
       record { goes = goes-on (moves-one (nodeOf sets) q (ends-dead t (nodeOf sets) e)) keeps-same (next .goes); parent = next .parent }
 
   module _ (fits : sets .chosen ≤ length (sets .set)) (live : deadAt t sets ≡ false) where
@@ -205,11 +204,11 @@ module _ (t : Table) (sets : Sets) where
         is-child : to ≡ first
         is-child = ap₂ (λ (a : List ℕ) (k : ℕ). setsOf a k) p q
 
-        here : dead sameRole t (nodeOf sets) ≡ false
+        here : dead (roleOrder t) t (nodeOf sets) ≡ false
         here = unfold deadAt in live
 
         child-next : rest t sets ≡ nodeOf sets ∷ rest t first
-        child-next = unfold rest nodeOf in remaining-down (dead sameRole t) (2 ^ atoms t) (t .variables) (sets .set) (sets .chosen) h l (pow-pos (atoms t)) here
+        child-next = unfold rest nodeOf in remaining-down (dead (roleOrder t) t) (2 ^ atoms t) (t .variables) (sets .set) (sets .chosen) h l (pow-pos (atoms t)) here
 
         down : rest t sets ≡ nodeOf sets ∷ rest t to
         down = child-next ∙ ap (λ (x : Sets). nodeOf sets ∷ rest t x) (sym is-child)
@@ -223,10 +222,10 @@ module _ (t : Table) (sets : Sets) where
             }
 
         above : LiveAbove t sets → LiveAbove t first
-        above f = unfold LiveAboveAt in (λ j k. ap (dead sameRole t) (take-set-le j (sets .set) (sets .chosen) 0 (omega arith)) ∙ at j k (ℕ-discrete j (sets .chosen)))
+        above f = unfold LiveAboveAt in (λ j k. ap (dead (roleOrder t) t) (take-set-le j (sets .set) (sets .chosen) 0 (omega arith)) ∙ at j k (ℕ-discrete j (sets .chosen)))
           where
-            at : (j : ℕ) → j < sets .chosen + 1 → Dec (j ≡ sets .chosen) → dead sameRole t (take j (sets .set)) ≡ false
-            at j k (yes i) = ap (λ (n : ℕ). dead sameRole t (take n (sets .set))) i ∙ (unfold nodeOf in here)
+            at : (j : ℕ) → j < sets .chosen + 1 → Dec (j ≡ sets .chosen) → dead (roleOrder t) t (take j (sets .set)) ≡ false
+            at j k (yes i) = ap (λ (n : ℕ). dead (roleOrder t) t (take n (sets .set))) i ∙ (unfold nodeOf in here)
             at j k (no i) = unfold LiveAboveAt in f j (omega arith)
 
 ----------------------------------------------------------------------------------------------------
@@ -304,17 +303,17 @@ module _ (t : Table) (last : ℕ) (width : 2 ^ atoms t ≡ last + 1) (sets : Set
   unfolding rest nodeOf deadSibling
   sibling-next x h e =
       let q : getD (siblingOf sets x) (sets .chosen - 1) 0 ≡ x = getD-set-same (sets .set) (sets .chosen - 1) x 0 (omega arith) in
-      remaining-gone (dead sameRole t) (2 ^ atoms t) (t .variables) (siblingOf sets x) (sets .chosen) e
+      remaining-gone (dead (roleOrder t) t) (2 ^ atoms t) (t .variables) (siblingOf sets x) (sets .chosen) e
       ∙ ap (λ (l : List Node). take (sets .chosen) (siblingOf sets x) ∷ l)
-      (afterwards-hit (dead sameRole t) (2 ^ atoms t) (t .variables) (siblingOf sets x) (sets .chosen) some (let w : length (siblingOf sets x) ≡ length (sets .set) = length-set (sets .set) (sets .chosen - 1) x in omega arith) (omega arith)
-      ∙ ap (λ (l : List ℕ). remaining (dead sameRole t) (2 ^ atoms t) (t .variables) l (sets .chosen)) (ap (λ (y : ℕ). set (siblingOf sets x) (sets .chosen - 1) (y + 1)) q ∙ set-set (sets .set) (sets .chosen - 1) x (x + 1)))
+      (afterwards-hit (dead (roleOrder t) t) (2 ^ atoms t) (t .variables) (siblingOf sets x) (sets .chosen) some (let w : length (siblingOf sets x) ≡ length (sets .set) = length-set (sets .set) (sets .chosen - 1) x in omega arith) (omega arith)
+      ∙ ap (λ (l : List ℕ). remaining (dead (roleOrder t) t) (2 ^ atoms t) (t .variables) l (sets .chosen)) (ap (λ (y : ℕ). set (siblingOf sets x) (sets .chosen - 1) (y + 1)) q ∙ set-set (sets .set) (sets .chosen - 1) x (x + 1)))
 
   -- i dead siblings, gone along
-  swept-moves : (i : ℕ) → ownOf sets + i ≤ last → Passes t sets i → Moves (ends sameRole t) i (rest t sets) (rest t (sibling (ownOf sets + i)))
+  swept-moves : (i : ℕ) → ownOf sets + i ≤ last → Passes t sets i → Moves (ends (roleOrder t) t) i (rest t sets) (rest t (sibling (ownOf sets + i)))
   swept-moves zero h p =
-      moves-none (unfold rest in ap (λ (a : List ℕ). remaining (dead sameRole t) (2 ^ atoms t) (t .variables) a (sets .chosen)) (sym (ap (set (sets .set) (sets .chosen - 1)) (add-zero (ownOf sets)) ∙ set-getD (sets .set) (sets .chosen - 1) 0)))
+      moves-none (unfold rest in ap (λ (a : List ℕ). remaining (dead (roleOrder t) t) (2 ^ atoms t) (t .variables) a (sets .chosen)) (sym (ap (set (sets .set) (sets .chosen - 1)) (add-zero (ownOf sets)) ∙ set-getD (sets .set) (sets .chosen - 1) 0)))
   swept-moves (suc i) h p =
-      subst (λ (n : ℕ). Moves (ends sameRole t) n (rest t sets) (rest t (sibling (ownOf sets + suc i)))) (add-one i)
+      subst (λ (n : ℕ). Moves (ends (roleOrder t) t) n (rest t sets) (rest t (sibling (ownOf sets + suc i)))) (add-one i)
       (moves-on (swept-moves i (omega arith) (unfold Passes in λ j k. p j (omega arith)))
       (moves-one (nodeOf (sibling (ownOf sets + i))) (sibling-next (ownOf sets + i) (omega arith) here ∙ ap (λ (x : ℕ). nodeOf (sibling (ownOf sets + i)) ∷ rest t (sibling x)) next)
       (ends-dead t (nodeOf (sibling (ownOf sets + i))) (unfold nodeOf deadSibling in here))))
@@ -335,11 +334,11 @@ module _ (t : Table) (last : ℕ) (width : 2 ^ atoms t ≡ last + 1) (sets : Set
     here-keeps = subst (Keeps t sets) (sym is-sibling) (keeps-sibling t (sets .set) (sets .chosen) some fits (swept .at) (let w : swept .at ≤ last = sweeps .within in omega arith))
 
     here-dead : deadSibling t sets (swept .at) ≡ deadAt t here
-    here-dead = unfold deadSibling deadAt nodeOf in ap (λ (x : Sets). dead sameRole t (take (x .chosen) (x .set))) (sym is-sibling)
+    here-dead = unfold deadSibling deadAt nodeOf in ap (λ (x : Sets). dead (roleOrder t) t (take (x .chosen) (x .set))) (sym is-sibling)
 
-    here-moves : (i : ℕ) → swept .at ≡ ownOf sets + i → Passes t sets i → Moves (ends sameRole t) i (rest t sets) (rest t here)
+    here-moves : (i : ℕ) → swept .at ≡ ownOf sets + i → Passes t sets i → Moves (ends (roleOrder t) t) i (rest t sets) (rest t here)
     here-moves i e p =
-        subst (λ (x : Sets). Moves (ends sameRole t) i (rest t sets) (rest t x)) (ap sibling (sym e) ∙ sym is-sibling)
+        subst (λ (x : Sets). Moves (ends (roleOrder t) t) i (rest t sets) (rest t x)) (ap sibling (sym e) ∙ sym is-sibling)
         (swept-moves i (let w : swept .at ≤ last = sweeps .within in omega arith) p)
 
     -- what the sweep says, by its end
@@ -483,30 +482,30 @@ module _ (t : Table) (root : State) (fresh : Fresh root) where
 
     first : (l : List Node) × (rest t (state .sets) ≡ nodeOf (state .sets) ∷ l)
     unfolding rest nodeOf
-    first = remaining-first (dead sameRole t) (2 ^ atoms t) (t .variables) (state .sets .set) (state .sets .chosen)
+    first = remaining-first (dead (roleOrder t) t) (2 ^ atoms t) (t .variables) (state .sets .set) (state .sets .chosen)
 
-    start : outcome sameRole t b ≡ scan (ends sameRole t) b 0 (rest t (root .sets))
+    start : outcome (roleOrder t) t b ≡ scan (ends (roleOrder t) t) b 0 (rest t (root .sets))
     unfolding rest nodes
     start =
-        scan-means sameRole t b
-        ∙ ap (scan (ends sameRole t) b 0) (remaining-start (dead sameRole t) (2 ^ atoms t) (t .variables) (root .sets .set) ∙ ap (remaining (dead sameRole t) (2 ^ atoms t) (t .variables) (root .sets .set)) (sym (fresh .none-chosen)))
+        scan-means (roleOrder t) t b
+        ∙ ap (scan (ends (roleOrder t) t) b 0) (remaining-start (dead (roleOrder t) t) (2 ^ atoms t) (t .variables) (root .sets .set) ∙ ap (remaining (dead (roleOrder t) t) (2 ^ atoms t) (t .variables) (root .sets .set)) (sym (fresh .none-chosen)))
 
-    pub walked-found : state .going ≡ Solved → solved (state .count) (nodeOf (state .sets)) ≡ outcome sameRole t b
+    pub walked-found : state .going ≡ Solved → solved (state .count) (nodeOf (state .sets)) ≡ outcome (roleOrder t) t b
     walked-found e =
         let k = leads Solved e in let q : run .many ≡ k .0 + 1 = k .1 in let f : run .many ≤ b = run .few in
         sym (start ∙ scan-moves b 0 (k .2) (omega arith)
-        ∙ ap₂ (λ (x : ℕ) (l : List Node). scan (ends sameRole t) x (0 + k .0) l) (let z : b - k .0 ≡ suc (b - (k .0 + 1)) = omega arith in z) (first .1)
-        ∙ scan-solved (ends sameRole t) (b - (k .0 + 1)) (0 + k .0) (nodeOf (state .sets)) (first .0) (k .3)
+        ∙ ap₂ (λ (x : ℕ) (l : List Node). scan (ends (roleOrder t) t) x (0 + k .0) l) (let z : b - k .0 ≡ suc (b - (k .0 + 1)) = omega arith in z) (first .1)
+        ∙ scan-solved (ends (roleOrder t) t) (b - (k .0 + 1)) (0 + k .0) (nodeOf (state .sets)) (first .0) (k .3)
         ∙ ap (λ (n : ℕ). solved n (nodeOf (state .sets))) (let z : 0 + k .0 + 1 ≡ state .count = omega (arith, counted) in z))
 
-    pub walked-over : state .going ≡ Over → nothing (state .count) ≡ outcome sameRole t b
+    pub walked-over : state .going ≡ Over → nothing (state .count) ≡ outcome (roleOrder t) t b
     walked-over e =
-        sym (start ∙ scan-moves b 0 (leads Over e .0) (run .few) ∙ scan-end (ends sameRole t) (b - run .many) (0 + run .many) [] refl
+        sym (start ∙ scan-moves b 0 (leads Over e .0) (run .few) ∙ scan-end (ends (roleOrder t) t) (b - run .many) (0 + run .many) [] refl
         ∙ ap nothing (let z : 0 + run .many ≡ state .count = omega (arith, counted) in z))
 
-    pub walked-spent : state .going ≡ On → budget (state .count) ≡ outcome sameRole t b
+    pub walked-spent : state .going ≡ On → budget (state .count) ≡ outcome (roleOrder t) t b
     walked-spent e =
         let w : run .many ≡ b = run .whole e in
-        sym (start ∙ scan-moves b 0 (leads On e) (run .few) ∙ ap (scan (ends sameRole t) (b - run .many) (0 + run .many)) (first .1)
-        ∙ scan-spent (ends sameRole t) (b - run .many) (0 + run .many) (nodeOf (state .sets)) (first .0) (omega arith)
+        sym (start ∙ scan-moves b 0 (leads On e) (run .few) ∙ ap (scan (ends (roleOrder t) t) (b - run .many) (0 + run .many)) (first .1)
+        ∙ scan-spent (ends (roleOrder t) t) (b - run .many) (0 + run .many) (nodeOf (state .sets)) (first .0) (omega arith)
         ∙ ap budget (let z : 0 + run .many ≡ state .count = omega (arith, counted) in z))

@@ -26,8 +26,7 @@ use mathlib.Core.List.{List, []}
 use Prim.Native.Nat.{ℕ, _+_, _^_, _≤_, _<_}
 use lib.Dec.{T}
 use lib.ListN.{getD, take}
-use Rattle.el.specs.Description.{sameRole}
-use Rattle.el.specs.Table.{Table, atoms}
+use Rattle.el.specs.Table.{Table, atoms, roleOrder}
 use Rattle.el.specs.Walk.{Node, dead, ends, Outcome, solved, nothing, budget}
 use Rattle.el.specs.Along.{remaining, afterwards, Moves}
 use Rattle.table.specs.Reading.{byteAt, reading, isReadable, tableOf}
@@ -43,10 +42,10 @@ use Rattle.walk.specs.declared.End.the-variants.{Found, Nothing, Spent}
 use Rattle.walk.specs.declared.Walked.{Walked}
 
 unfoldable pub rest : Table → Sets → List Node
-rest t sets = remaining (dead sameRole t) (2 ^ atoms t) (t .variables) (sets .set) (sets .chosen)
+rest t sets = remaining (dead (roleOrder t) t) (2 ^ atoms t) (t .variables) (sets .set) (sets .chosen)
 
 unfoldable pub after : Table → Sets → List Node
-after t sets = afterwards (dead sameRole t) (2 ^ atoms t) (t .variables) (sets .set) (sets .chosen)
+after t sets = afterwards (dead (roleOrder t) t) (2 ^ atoms t) (t .variables) (sets .set) (sets .chosen)
 
 -- of the node (take k a)
 pub record InRangeAt (t : Table) (a : List ℕ) (k : ℕ) : Type 0 where
@@ -55,7 +54,7 @@ pub record InRangeAt (t : Table) (a : List ℕ) (k : ℕ) : Type 0 where
   pub clean : (x : ℕ) → k ≤ x → getD a x 0 ≡ 0
 
 unfoldable pub LiveAboveAt : Table → List ℕ → ℕ → Type 0
-LiveAboveAt t a k = (j : ℕ) → j < k → dead sameRole t (take j a) ≡ false
+LiveAboveAt t a k = (j : ℕ) → j < k → dead (roleOrder t) t (take j a) ≡ false
 
 abbrev pub InRange : Table → Sets → Type 0
 InRange t sets = InRangeAt t (sets .set) (sets .chosen)
@@ -76,9 +75,9 @@ Keeps t from to = KeepsAt t (from .set) (from .chosen) (to .set) (to .chosen)
 
 -- where n nodes of the list l lead to
 abbrev pub Leads : Table → List Node → ℕ → Going → Sets → Type 0
-Leads t l n Solved to = (i : ℕ) × (n ≡ i + 1) × Moves (ends sameRole t) i l (rest t to) × (ends sameRole t (nodeOf to) ≡ true)
-Leads t l n On to = Moves (ends sameRole t) n l (rest t to)
-Leads t l n Over to = Moves (ends sameRole t) n l [] × (to .chosen ≡ 0)
+Leads t l n Solved to = (i : ℕ) × (n ≡ i + 1) × Moves (ends (roleOrder t) t) i l (rest t to) × (ends (roleOrder t) t (nodeOf to) ≡ true)
+Leads t l n On to = Moves (ends (roleOrder t) t) n l (rest t to)
+Leads t l n Over to = Moves (ends (roleOrder t) t) n l [] × (to .chosen ≡ 0)
 
 pub record Goes (t : Table) (l : List Node) (n : ℕ) (from : Sets) (going : Going) (to : Sets) : Type 0 where
   pub leads : Leads t l n going to
@@ -98,7 +97,7 @@ abbrev pub Looks : Table → Sets → Step → Type 0
 Looks t sets step = Steps t (rest t sets) 1 sets step
 
 unfoldable pub deadAt : Table → Sets → Bool
-deadAt t sets = dead sameRole t (nodeOf sets)
+deadAt t sets = dead (roleOrder t) t (nodeOf sets)
 
 pub record Advances (t : Table) (sets : Sets) (most : ℕ) (gone : Gone) : Type 0 where
   pub some : 0 < gone .passed

@@ -5,8 +5,7 @@ ghost use mathlib.Core.Bool.{false};
 ghost use Prim.Native.Nat.{_+_, _≤_, _<_, _^_};
 ghost use lib.Dec.{T};
 ghost use lib.ListN.{set};
-ghost use Rattle.el.specs.Description.{sameRole};
-ghost use Rattle.el.specs.Table.{Table, atoms};
+ghost use Rattle.el.specs.Table.{Table, atoms, roleOrder};
 ghost use Rattle.el.specs.Walk.{outcome};
 ghost use Rattle.table.specs.Reading.{byteAt, reading, isReadable, tableOf};
 ghost use Rattle.order.specs.Given.{RowsGiven};
@@ -385,7 +384,7 @@ fn walk_from_root(
     budget: u32,
 ) -> Walked
     requires { ⌜ Given (now table) c e v m last ⌝ }
-    ensures { λ r. ⌜ (outcomeOf r ≡ outcome sameRole (tableOf (now (table .entry))) budget) × (r .sets .chosen ≤ v) ⌝ }
+    ensures { λ r. ⌜ (outcomeOf r ≡ outcome (roleOrder (tableOf (now (table .entry)))) (tableOf (now (table .entry))) budget) × (r .sets .chosen ≤ v) ⌝ }
 {
     let state = run(table, c, e, v, m, last, fresh(), budget);
     let count = state.count;
@@ -421,7 +420,7 @@ fn last_set(n: usize) -> u32
 // The walk over a readable table with a budget.
 pub fn walk(table: &[u8], budget: u32) -> Walked
     requires { ⌜ T (isReadable (reading (now table))) ⌝ }
-    ensures { λ r. ⌜ (outcomeOf r ≡ outcome sameRole (tableOf (now (table .entry))) budget) × (r .sets .chosen ≤ byteAt (now (table .entry)) 7) ⌝ }
+    ensures { λ r. ⌜ (outcomeOf r ≡ outcome (roleOrder (tableOf (now (table .entry)))) (tableOf (now (table .entry))) budget) × (r .sets .chosen ≤ byteAt (now (table .entry)) 7) ⌝ }
 {
     let c = table::wide(table[table::CONSTANTS]);
     let v = table::wide(table[table::VARIABLES]);

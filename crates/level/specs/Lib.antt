@@ -1,3 +1,7 @@
 pub mod Level
+pub mod Sweep
+pub mod WaysLaws
+pub mod ListedLaws
 pub mod LevelLaws
+pub mod ChildLaws
 pub mod SweepLaws

@@ -1,44 +1,51 @@
 // A level of the walk: what the children of one live node share. Worked out once for a node, it leaves for each child two masks
 // to hold its newest set against, and the lines that only now are ready.
+use bounds::Count;
+use bounds::RowMask;
+use bounds::SetNumber;
+use bounds::VariableMask;
+use node::Counts;
 ghost use mathlib.Core.Path.{_≡_};
 ghost use mathlib.Core.Bool.{Bool, _&&_, _||_};
 ghost use Prim.Native.Nat.{ℕ, _+_, _-_, _≤_, _<_};
-ghost use lib.Dec.{eqb};
+ghost use lib.Dec.{T, eqb};
 ghost use lib.ListN.{length, take};
-ghost use Rattle.el.specs.Table.{roleOrder};
+ghost use Rattle.bounds.specs.Bounds.{maxAtoms, maxVariables, maxLines, setBits};
+ghost use Rattle.el.specs.Table.{Table, declared, roleOrder};
 ghost use Rattle.el.specs.Walk.{dead};
 ghost use Rattle.table.specs.Reading.{tableOf};
-ghost use Rattle.node.specs.Node.{Masks, NodeGiven, Prepares};
-ghost use Rattle.order.specs.Given.{RowsGiven};
-ghost use Rattle.level.specs.Level.{newBy, Back, Out, WaysTo, freshMask, isFresh, Listed, Levels, FreshGiven, freshFails, ChildGiven, SweepGiven, Sweeps};
+ghost use Rattle.node.specs.Mask.{Masks, Fills, LineMasks};
+ghost use Rattle.node.specs.Square.{SquareGiven};
+ghost use Rattle.level.specs.Level.{newBy, Back, Out, WaysTo, freshMask, isFresh, Listed, Levels, freshFails};
+ghost use Rattle.level.specs.Sweep.{FreshGiven, ChildGiven, SweepGiven, Sweeps};
 use node::Sets;
 use node::Square;
 
 // The atoms that lead a newest variable back to itself, those that lead it to a variable that is not chosen, and the numbers of
 // the lines that the children have to test.
 pub struct Level {
-    pub turning: u32,
-    pub leaving: u32,
-    pub fresh: [u8; 64],
+    pub turning: SetNumber,
+    pub leaving: SetNumber,
+    pub fresh: [u8; bounds::MAX_LINES],
     pub few: usize,
 }
 
 // The same two masks of atoms by themselves.
 struct Ways {
-    turning: u32,
-    leaving: u32,
+    turning: SetNumber,
+    leaving: SetNumber,
 }
 
 // What a variable with the direct dependences `direct` leads to, over the first n variables' rows.
-fn newly_mask(row: &[u32], n: usize, direct: u32) -> u32
-    requires { ⌜ (n ≤ 12) × (length (now row) ≡ 12) ⌝ }
+fn newly_mask(row: &[VariableMask], n: usize, direct: VariableMask) -> VariableMask
+    requires { ⌜ (n ≤ maxVariables) × (length (now row) ≡ maxVariables) ⌝ }
     ensures { λ r. ⌜ Masks (newBy (now (row .entry)) direct n) r ⌝ }
 {
     if direct == 0 {
         return 0;
     }
     let mut mask = direct;
-    let mut z: usize = 0;
+    let mut z = 0;
     while z < n {
         if (direct >> z) % 2 == 1 {
             mask = mask | row[z];
@@ -49,25 +56,25 @@ fn newly_mask(row: &[u32], n: usize, direct: u32) -> u32
 }
 
 // The mask, with the bit i where `on` says so.
-fn with_bit(mask: u32, i: usize, on: bool) -> u32
-    requires { ⌜ i < 32 ⌝ }
+fn with_bit(mask: SetNumber, i: usize, on: bool) -> SetNumber
+    requires { ⌜ i < setBits ⌝ }
     ensures { λ r. ⌜ ((q : ℕ → Bool) → Masks q mask → Masks (λ z. q z || (on && eqb i z)) r) ⌝ }
 {
     if on {
-        return mask | (1u32 << i);
+        return mask | (1 << i);
     }
     mask
 }
 
 // The atoms that lead a variable y with them back to y, and those that lead it to a variable after y.
-fn ways_of(fill: &[u32], c: usize, e: usize, square: Square, y: usize) -> Ways
-    requires { ⌜ (c + e ≤ 24) × (e ≤ length (now fill)) × (y < 12) ⌝ }
+fn ways_of(fill: &[VariableMask], c: usize, e: usize, square: Square, y: usize) -> Ways
+    requires { ⌜ (c + e ≤ maxAtoms) × (e ≤ length (now fill)) × (y < maxVariables) ⌝ }
     ensures { λ r. ⌜ WaysTo (Back y) (now (fill .entry)) (square .row) c y e (r .turning) × WaysTo (Out y) (now (fill .entry)) (square .row) c y e (r .leaving) ⌝ }
 {
     let row = square.row;
-    let mut turning: u32 = 0;
-    let mut leaving: u32 = 0;
-    let mut k: usize = 0;
+    let mut turning = 0;
+    let mut leaving = 0;
+    let mut k = 0;
     while k < e {
         let leads = newly_mask(&row, y, fill[k]);
         turning = with_bit(turning, c + k, (leads >> y) % 2 == 1);
@@ -78,7 +85,7 @@ fn ways_of(fill: &[u32], c: usize, e: usize, square: Square, y: usize) -> Ways
 }
 
 // Has the line with the variables `own` one of `about`, and none that is not of `near`?
-fn passes(own: u32, about: u32, near: u32) -> bool
+fn passes(own: VariableMask, about: VariableMask, near: VariableMask) -> bool
     ensures { λ r. ⌜ r ≡ freshMask own about near ⌝ }
 {
     if (own & about) == 0 {
@@ -88,13 +95,19 @@ fn passes(own: u32, about: u32, near: u32) -> bool
 }
 
 // The lines, m in number, that have a variable of `about` and only variables of `near`.
-fn collect(mask: &[u32], m: usize, about: u32, near: u32, ways: Ways) -> Level
-    requires { ⌜ (m ≤ 64) × (length (now mask) ≡ 64) ⌝ }
+fn collect(
+    mask: &[VariableMask],
+    m: usize,
+    about: VariableMask,
+    near: VariableMask,
+    ways: Ways,
+) -> Level
+    requires { ⌜ (m ≤ maxLines) × (length (now mask) ≡ maxLines) ⌝ }
     ensures { λ r. ⌜ (r .turning ≡ ways .turning) × (r .leaving ≡ ways .leaving) × Listed (isFresh (now (mask .entry)) about near) m (r .fresh) (r .few) ⌝ }
 {
-    let mut fresh = [0u8; 64];
-    let mut few: usize = 0;
-    let mut n: usize = 0;
+    let mut fresh: [u8; bounds::MAX_LINES] = [0; bounds::MAX_LINES];
+    let mut few = 0;
+    let mut n = 0;
     while n < m {
         if passes(mask[n], about, near) {
             fresh[few] = n as u8;
@@ -113,50 +126,43 @@ fn collect(mask: &[u32], m: usize, about: u32, near: u32, ways: Ways) -> Level
 }
 
 // The level of a node: that of its parent's children.
-pub fn level_of(
-    table: &[u8],
-    fill: &[u32],
-    mask: &[u32],
-    start: &[usize],
-    c: usize,
-    e: usize,
-    v: usize,
-    m: usize,
-    sets: Sets,
-) -> Level
-    requires { ⌜ NodeGiven (now table) c e v m sets × Prepares (now table) (now fill) (now mask) (now start) × (0 < sets .chosen) ⌝ }
-    ensures { λ r. ⌜ Levels (tableOf (now (table .entry))) (take (sets .chosen - 1) (sets .set)) m r ⌝ }
+pub fn level_of(fill: &[VariableMask], mask: &[VariableMask], counts: Counts, sets: Sets) -> Level
+    requires { ⌜ SquareGiven (now fill) (counts .c) (counts .e) sets × (counts .m ≤ maxLines) × (length (now mask) ≡ maxLines) × (0 < sets .chosen) ⌝ }
+    ensures { λ r. ⌜ ((t : Table) → T (declared t) → Fills t (counts .c) (counts .e) (now (fill .entry)) → LineMasks t (counts .m) (now (mask .entry)) → sets .chosen ≤ t .variables → Levels t (take (sets .chosen - 1) (sets .set)) (counts .m) r) ⌝ }
 {
+    let c = counts.c;
+    let e = counts.e;
     let mut set = sets.set;
     let y = sets.chosen - 1;
     set[y] = 0;
     let square = node::square_of(fill, c, e, Sets { set, chosen: y });
-    let about = node::leads_mask(square, y, y) | (1u32 << y);
+    let about = node::leads_mask(square, y, y) | (1 << y);
     let near = node::settled_mask(square, y + 1);
     let ways = ways_of(fill, c, e, square, y);
-    collect(mask, m, about, near, ways)
+    collect(mask, counts.m, about, near, ways)
 }
 
 // One of the level's lines fails at the node.
 fn fresh_fails(
     table: &[u8],
-    over: &[u32],
+    over: &[RowMask],
     inner: &[u8],
     start: &[usize],
     fresh: &[u8],
     few: usize,
-    c: usize,
-    e: usize,
-    v: usize,
-    set: &[u32],
+    counts: Counts,
+    set: &[SetNumber],
 ) -> bool
-    requires { ⌜ FreshGiven (now table) (now start) c e v (now fresh) few (now set) × RowsGiven (now table) (now over) (now inner) ⌝ }
-    ensures { λ r. ⌜ r ≡ freshFails (now (table .entry)) (now (set .entry)) (now (fresh .entry)) few ⌝ }
+    requires { ⌜ FreshGiven (now table) (now over) (now inner) (now start) (now fresh) few counts (now set) ⌝ }
+    ensures { λ r. ⌜ r ≡ freshFails (tableOf (now (table .entry))) (now (set .entry)) (now (fresh .entry)) few ⌝ }
 {
-    let mut i: usize = 0;
+    let c = counts.c;
+    let e = counts.e;
+    let v = counts.v;
+    let mut i = 0;
     while i < few {
         let n = table::wide(fresh[i]);
-        if !order::line_holds(table, over, inner, set, c, e, v, n, start[n]) {
+        if !order::line_holds(table, over, inner, set, c, e, v, start[n]) {
             return true;
         }
         i += 1;
@@ -166,23 +172,20 @@ fn fresh_fails(
 
 // Is the node of the first k sets, the child of a live one, dead? Cyclic through the newest variable, or else one of the level's
 // lines fails; but where the newest variable leads to one that is not chosen, no line is ready that was not ready before.
-fn is_dead(
+fn child_is_dead(
     table: &[u8],
-    over: &[u32],
+    over: &[RowMask],
     inner: &[u8],
     start: &[usize],
-    turning: u32,
-    leaving: u32,
+    turning: SetNumber,
+    leaving: SetNumber,
     fresh: &[u8],
     few: usize,
-    c: usize,
-    e: usize,
-    v: usize,
-    m: usize,
+    counts: Counts,
+    set: &[SetNumber],
     k: usize,
-    set: &[u32],
 ) -> bool
-    requires { ⌜ ChildGiven (now table) (now start) turning leaving (now fresh) few c e v m k (now set) × RowsGiven (now table) (now over) (now inner) ⌝ }
+    requires { ⌜ ChildGiven (now table) (now over) (now inner) (now start) turning leaving (now fresh) few counts (now set) k ⌝ }
     ensures { λ r. ⌜ r ≡ dead (roleOrder (tableOf (now (table .entry)))) (tableOf (now (table .entry))) (take k (now (set .entry))) ⌝ }
 {
     let x = set[k - 1];
@@ -192,7 +195,7 @@ fn is_dead(
     if (x & leaving) != 0 {
         return false;
     }
-    fresh_fails(table, over, inner, start, fresh, few, c, e, v, set)
+    fresh_fails(table, over, inner, start, fresh, few, counts, set)
 }
 
 // What halted a sweep over siblings: a live one, the last one passed, or as many examined as were allowed.
@@ -205,26 +208,23 @@ pub enum Halt {
 // How many siblings were examined, and the set number of the one at hand.
 pub struct Swept {
     pub end: Halt,
-    pub passed: u32,
-    pub at: u32,
+    pub passed: Count,
+    pub at: SetNumber,
 }
 
 // Examines the node and its siblings after it, at most `most` of them, up to the first that is live.
 pub fn sweep(
     table: &[u8],
-    over: &[u32],
+    over: &[RowMask],
     inner: &[u8],
     start: &[usize],
     level: Level,
-    c: usize,
-    e: usize,
-    v: usize,
-    m: usize,
+    counts: Counts,
     sets: Sets,
-    last: u32,
-    most: u32,
+    last: SetNumber,
+    most: Count,
 ) -> Swept
-    requires { ⌜ SweepGiven (now table) (now start) level c e v m sets last × RowsGiven (now table) (now over) (now inner) ⌝ }
+    requires { ⌜ SweepGiven (now table) (now over) (now inner) (now start) level counts sets last ⌝ }
     ensures { λ r. ⌜ Sweeps (tableOf (now (table .entry))) sets last most r ⌝ }
 {
     let k = sets.chosen;
@@ -234,11 +234,11 @@ pub fn sweep(
     let fresh = level.fresh;
     let few = level.few;
     let mut set = sets.set;
-    let mut passed: u32 = 0;
+    let mut passed = 0;
     while passed < most {
         let x = set[y];
         passed += 1;
-        if !is_dead(
+        if !child_is_dead(
             table,
             over,
             inner,
@@ -247,12 +247,9 @@ pub fn sweep(
             leaving,
             &fresh,
             few,
-            c,
-            e,
-            v,
-            m,
-            k,
+            counts,
             &set,
+            k,
         ) {
             return Swept {
                 end: Halt::Live,

@@ -1,8 +1,11 @@
 pub mod Node
+pub mod Mask
+pub mod Square
 pub mod MaskLaws
 pub mod CodeLaws
+pub mod LineLaws
+pub mod SetsLaws
+pub mod DependLaws
 pub mod SquareLaws
 pub mod ReadyLaws
-pub mod LineLaws
 pub mod DeadLaws
-pub mod NodeTestLaws

@@ -10,15 +10,19 @@
 --                       that of `to`, and ends the walk; where it is over, no node is left, and `to` is the root
 --   Keeps t from to  == what is so of the one node is so of the other; `KeepsAt`, of two lists
 --   Goes t l n from going to == it leads there, and what is so of `from` stays so
+--   HasEnded going   == the walk does not go on
 --   HasParent going to == a node that the walk goes on to is not the root
 --   Steps t l n from step == both, of a step; from what comes after a node, `Next`; from a node that is examined, `Looks`
 --   deadAt t sets    == the node is dead
+--   Climbs t a₀ k₀ a k == what comes after the node (take k₀ a₀) comes after (take k a), and what is so of the first is so of the second
 --   Advances t sets most gone == a sweep over at most so many siblings, and the step after it
 --   Ran t sets count n to == the node of `sets` moved on by n nodes; count were examined before
 --   RunsOn t sets count share to == the same by `share` nodes, or fewer where the walk ends
 --   Runs t from share to == the same of a state; one that has ended stays
+--   Running t first counted end sets count == a run from the first node, up to the node of `sets`: so far it went along nodes none of which ends the walk
+--   CanCount count share == so many nodes more can be counted
 --   Fresh state      == the state at the root
---   Given s c e v m last == s is a readable table with these counts, and `last` is its last set number
+--   Given s counts last == s is a readable table with these counts, and `last` is its last set number
 --   outcomeOf walked == the outcome that the walk's last state says; `outcomeAs`, by its end
 use mathlib.Core.Path.{_≡_}
 use mathlib.Core.Bool.{Bool, true, false}
@@ -26,12 +30,15 @@ use mathlib.Core.List.{List, []}
 use Prim.Native.Nat.{ℕ, _+_, _^_, _≤_, _<_}
 use lib.Dec.{T}
 use lib.ListN.{getD, take}
+use Rattle.bounds.specs.Bounds as bounds
 use Rattle.el.specs.Table.{Table, atoms, roleOrder}
 use Rattle.el.specs.Walk.{Node, dead, ends, Outcome, solved, nothing, budget}
 use Rattle.el.specs.Along.{remaining, afterwards, Moves}
-use Rattle.table.specs.Reading.{byteAt, reading, isReadable, tableOf}
+use Rattle.table.specs.Reading.{reading, isReadable, tableOf}
 use Rattle.node.specs.declared.Sets.{Sets}
-use Rattle.node.specs.Node.{nodeOf}
+use Rattle.node.specs.declared.Counts.{Counts}
+use Rattle.node.specs.Node.{nodeOf, CountsOf}
+use Rattle.level.specs.Sweep.{setsOf}
 use Rattle.walk.specs.declared.Going.{Going}
 use Rattle.walk.specs.declared.Going.the-variants.{Solved, On, Over}
 use Rattle.walk.specs.declared.Step.{Step}
@@ -83,6 +90,11 @@ pub record Goes (t : Table) (l : List Node) (n : ℕ) (from : Sets) (going : Goi
   pub leads : Leads t l n going to
   pub keeps : Keeps t from to
 
+abbrev pub HasEnded : Going → Type 0
+HasEnded Solved = Unit {0}
+HasEnded On = ⊥
+HasEnded Over = Unit {0}
+
 abbrev pub HasParent : Going → Sets → Type 0
 HasParent going to = going ≡ On → 0 < to .chosen
 
@@ -98,6 +110,10 @@ Looks t sets step = Steps t (rest t sets) 1 sets step
 
 unfoldable pub deadAt : Table → Sets → Bool
 deadAt t sets = dead (roleOrder t) t (nodeOf sets)
+
+pub record Climbs (t : Table) (a₀ : List ℕ) (k₀ : ℕ) (a : List ℕ) (k : ℕ) : Type 0 where
+  pub same : after t (setsOf a₀ k₀) ≡ after t (setsOf a k)
+  pub keeps : KeepsAt t a₀ k₀ a k
 
 pub record Advances (t : Table) (sets : Sets) (most : ℕ) (gone : Gone) : Type 0 where
   pub some : 0 < gone .passed
@@ -123,20 +139,27 @@ RunsAs t Over from share to = to ≡ from
 unfoldable pub Runs : Table → State → ℕ → State → Type 0
 Runs t from share to = RunsAs t (from .going) from share to
 
+pub record Running (t : Table) (first : Sets) (counted end : ℕ) (sets : Sets) (count : ℕ) : Type 0 where
+  pub many : ℕ
+  pub ran : Ran t first counted many (record { going = On; sets = sets; count = count })
+  pub few : count ≤ end
+  pub sound : Sound t sets
+  pub parent : 0 < sets .chosen
+
+abbrev pub CanCount : ℕ → ℕ → Type 0
+CanCount count share = count + share < bounds.counts
+
 pub record Fresh (state : State) : Type 0 where
   pub going : state .going ≡ On
   pub none-chosen : state .sets .chosen ≡ 0
   pub empty : (x : ℕ) → getD (state .sets .set) x 0 ≡ 0
   pub none-counted : state .count ≡ 0
 
-pub record Given (s : List ℕ) (c e v m last : ℕ) : Type 0 where
+pub record Given (s : List ℕ) (counts : Counts) (last : ℕ) : Type 0 where
   pub readable : T (isReadable (reading s))
-  pub constants : c ≡ byteAt s 5
-  pub restrictions : e ≡ byteAt s 8
-  pub variables : v ≡ byteAt s 7
-  pub lines : m ≡ byteAt s 9
+  pub counts-of : CountsOf s counts
   pub width : 2 ^ atoms (tableOf s) ≡ last + 1
-  pub narrow : last < 2 ^ 24
+  pub narrow : last < 2 ^ bounds.maxAtoms
 
 abbrev pub outcomeAs : End → ℕ → Node → Outcome
 outcomeAs Found n s = solved n s

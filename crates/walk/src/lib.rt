@@ -1,20 +1,26 @@
 // The walk goes along the list of nodes. One node is looked at by itself (`look`); siblings are swept over together, since they share a
 // level (`advance`); a state is moved on by a share of nodes (`run`); and the walk is the root's state moved on by the budget (`walk`).
+use bounds::Count;
+use bounds::RowMask;
+use bounds::SetNumber;
+use bounds::VariableMask;
+use level::Halt;
+use level::Level;
+use node::Counts;
+use node::Prepared;
+use node::Sets;
 ghost use mathlib.Core.Path.{_≡_};
 ghost use mathlib.Core.Bool.{false};
 ghost use Prim.Native.Nat.{_+_, _≤_, _<_, _^_};
 ghost use lib.Dec.{T};
 ghost use lib.ListN.{set};
+ghost use Rattle.bounds.specs.Bounds.{maxAtoms, maxVariables};
 ghost use Rattle.el.specs.Table.{Table, atoms, roleOrder};
 ghost use Rattle.el.specs.Walk.{outcome};
-ghost use Rattle.table.specs.Reading.{byteAt, reading, isReadable, tableOf};
-ghost use Rattle.order.specs.Given.{RowsGiven};
-ghost use Rattle.node.specs.Node.{Prepares};
-ghost use Rattle.level.specs.Level.{siblingOf, SweepGiven};
-ghost use Rattle.walk.specs.Step.{InRange, Sound, deadAt, Next, Looks, Advances, Runs, RunsOn, Given, Fresh, outcomeOf};
-use level::Halt;
-use level::Level;
-use node::Sets;
+ghost use Rattle.table.specs.Reading.{headerOf, reading, isReadable, tableOf};
+ghost use Rattle.node.specs.Node.{preparedOf, Prepares};
+ghost use Rattle.level.specs.Sweep.{siblingOf, SweepGiven};
+ghost use Rattle.walk.specs.Step.{InRange, Sound, deadAt, Next, Looks, Advances, CanCount, Runs, RunsOn, Given, Fresh, outcomeOf};
 
 // Where a step leads: to the end of the walk, on to a node, or nowhere because no node is left.
 pub enum Going {
@@ -32,7 +38,7 @@ pub struct Step {
 pub struct State {
     pub going: Going,
     pub sets: Sets,
-    pub count: u32,
+    pub count: Count,
 }
 
 // How a walk ended: at an assignment, with no node left, or with the budget spent.
@@ -44,13 +50,13 @@ pub enum End {
 
 pub struct Walked {
     pub end: End,
-    pub count: u32,
+    pub count: Count,
     pub sets: Sets,
 }
 
 // The first child.
 fn child(sets: Sets) -> Sets
-    requires { ⌜ sets .chosen < 12 ⌝ }
+    requires { ⌜ sets .chosen < maxVariables ⌝ }
     ensures { λ r. ⌜ (r .chosen ≡ sets .chosen + 1) × (r .set ≡ set (sets .set) (sets .chosen) 0) ⌝ }
 {
     let mut set = sets.set;
@@ -60,8 +66,8 @@ fn child(sets: Sets) -> Sets
 }
 
 // The next node that does not lie below this one: the next sibling, or that of the node above.
-fn next_node(sets: Sets, last: u32) -> Step
-    requires { ⌜ (sets .chosen ≤ 12) × (last < 2 ^ 24) ⌝ }
+fn next_node(sets: Sets, last: SetNumber) -> Step
+    requires { ⌜ (sets .chosen ≤ maxVariables) × (last < 2 ^ maxAtoms) ⌝ }
     ensures { λ r. ⌜ ((t : Table) → 2 ^ atoms t ≡ last + 1 → Next t sets r) ⌝ }
 {
     let mut set = sets.set;
@@ -86,7 +92,7 @@ fn next_node(sets: Sets, last: u32) -> Step
 
 // A live node: full, it ends the walk; otherwise it is followed by its first child.
 fn enter(v: usize, sets: Sets) -> Step
-    requires { ⌜ (v ≤ 12) × (sets .chosen ≤ v) ⌝ }
+    requires { ⌜ (v ≤ maxVariables) × (sets .chosen ≤ v) ⌝ }
     ensures { λ r. ⌜ ((t : Table) → v ≡ t .variables → deadAt t sets ≡ false → Looks t sets r) ⌝ }
 {
     let k = sets.chosen;
@@ -103,26 +109,26 @@ fn enter(v: usize, sets: Sets) -> Step
 }
 
 // One node examined by itself, whatever lies above it.
-fn look(table: &[u8], c: usize, e: usize, v: usize, m: usize, sets: Sets, last: u32) -> Step
-    requires { ⌜ Given (now table) c e v m last × InRange (tableOf (now table)) sets ⌝ }
+fn look(table: &[u8], counts: Counts, prepared: Prepared, last: SetNumber, sets: Sets) -> Step
+    requires { ⌜ Given (now table) counts last × Prepares (now table) prepared × InRange (tableOf (now table)) sets ⌝ }
     ensures { λ r. ⌜ Looks (tableOf (now (table .entry))) sets r ⌝ }
 {
-    if node::is_dead(table, c, e, v, m, sets) {
+    if node::is_dead(table, counts, prepared, sets) {
         return next_node(sets, last);
     }
-    enter(v, sets)
+    enter(counts.v, sets)
 }
 
 // Where a sweep and the step after it lead, and how many nodes were examined.
 pub struct Gone {
     pub going: Going,
     pub sets: Sets,
-    pub passed: u32,
+    pub passed: Count,
 }
 
 // The sibling with the set number x.
-fn moved(sets: Sets, x: u32) -> Sets
-    requires { ⌜ (0 < sets .chosen) × (sets .chosen ≤ 12) ⌝ }
+fn moved(sets: Sets, x: SetNumber) -> Sets
+    requires { ⌜ (0 < sets .chosen) × (sets .chosen ≤ maxVariables) ⌝ }
     ensures { λ r. ⌜ (r .set ≡ siblingOf sets x) × (r .chosen ≡ sets .chosen) ⌝ }
 {
     let mut set = sets.set;
@@ -134,41 +140,25 @@ fn moved(sets: Sets, x: u32) -> Sets
 // Sweeps over the siblings from the node on, at most `most` of them, and steps on from where that ends.
 fn advance(
     table: &[u8],
-    over: &[u32],
+    over: &[RowMask],
     inner: &[u8],
     start: &[usize],
     level: Level,
-    c: usize,
-    e: usize,
-    v: usize,
-    m: usize,
+    counts: Counts,
     sets: Sets,
-    last: u32,
-    most: u32,
+    last: SetNumber,
+    most: Count,
 ) -> Gone
-    requires { ⌜ Given (now table) c e v m last × SweepGiven (now table) (now start) level c e v m sets last × (0 < most) × RowsGiven (now table) (now over) (now inner) ⌝ }
+    requires { ⌜ Given (now table) counts last × SweepGiven (now table) (now over) (now inner) (now start) level counts sets last × (0 < most) ⌝ }
     ensures { λ r. ⌜ Advances (tableOf (now (table .entry))) sets most r ⌝ }
 {
-    let swept = level::sweep(
-        table,
-        over,
-        inner,
-        start,
-        level,
-        c,
-        e,
-        v,
-        m,
-        sets,
-        last,
-        most,
-    );
+    let swept = level::sweep(table, over, inner, start, level, counts, sets, last, most);
     let here = moved(sets, swept.at);
     let passed = swept.passed;
     let end = swept.end;
     match end {
         Halt::Live => {
-            let step = enter(v, here);
+            let step = enter(counts.v, here);
             let next = step.sets;
             let going = step.going;
             Gone {
@@ -198,44 +188,28 @@ fn advance(
 // A node below a live one, moved on by at most `share` nodes.
 fn run_below(
     table: &[u8],
-    over: &[u32],
+    over: &[RowMask],
     inner: &[u8],
-    fill: &[u32],
-    mask: &[u32],
+    fill: &[VariableMask],
+    mask: &[VariableMask],
     start: &[usize],
-    c: usize,
-    e: usize,
-    v: usize,
-    m: usize,
+    counts: Counts,
+    last: SetNumber,
     first: Sets,
-    last: u32,
-    counted: u32,
-    share: u32,
+    counted: Count,
+    share: Count,
 ) -> State
-    requires { ⌜ Given (now table) c e v m last × Prepares (now table) (now fill) (now mask) (now start) × RowsGiven (now table) (now over) (now inner) ⌝ }
-    requires { ⌜ Sound (tableOf (now table)) first × (0 < first .chosen) × (counted + share < 2 ^ 32) ⌝ }
+    requires { ⌜ Given (now table) counts last × Prepares (now table) (preparedOf (now over) (now inner) (now fill) (now mask) (now start)) ⌝ }
+    requires { ⌜ Sound (tableOf (now table)) first × (0 < first .chosen) × CanCount counted share ⌝ }
     ensures { λ r. ⌜ RunsOn (tableOf (now (table .entry))) first counted share r ⌝ }
 {
     let end = counted + share;
     let mut sets = first;
-    let mut level = level::level_of(table, fill, mask, start, c, e, v, m, first);
+    let mut level = level::level_of(fill, mask, counts, first);
     let mut count = counted;
     while count < end {
         let most = end - count;
-        let step = advance(
-            table,
-            over,
-            inner,
-            start,
-            level,
-            c,
-            e,
-            v,
-            m,
-            sets,
-            last,
-            most,
-        );
+        let step = advance(table, over, inner, start, level, counts, sets, last, most);
         count += step.passed;
         let next = step.sets;
         let going = step.going;
@@ -255,7 +229,7 @@ fn run_below(
                 };
             }
             Going::On => {
-                level = level::level_of(table, fill, mask, start, c, e, v, m, next);
+                level = level::level_of(fill, mask, counts, next);
                 sets = next;
             }
         }
@@ -270,16 +244,13 @@ fn run_below(
 // A node moved on by at most `share` nodes: it is looked at by itself, and the walk goes on below a live one.
 fn run_on(
     table: &[u8],
-    c: usize,
-    e: usize,
-    v: usize,
-    m: usize,
+    counts: Counts,
+    last: SetNumber,
     sets: Sets,
-    last: u32,
-    count: u32,
-    share: u32,
+    count: Count,
+    share: Count,
 ) -> State
-    requires { ⌜ Given (now table) c e v m last × Sound (tableOf (now table)) sets × (count + share < 2 ^ 32) ⌝ }
+    requires { ⌜ Given (now table) counts last × Sound (tableOf (now table)) sets × CanCount count share ⌝ }
     ensures { λ r. ⌜ RunsOn (tableOf (now (table .entry))) sets count share r ⌝ }
 {
     if share == 0 {
@@ -289,7 +260,8 @@ fn run_on(
             count,
         };
     }
-    let step = look(table, c, e, v, m, sets, last);
+    let prepared = node::prepare(table, counts);
+    let step = look(table, counts, prepared, last, sets);
     let next = step.sets;
     let going = step.going;
     let counted = count + 1;
@@ -305,13 +277,11 @@ fn run_on(
             count: counted,
         },
         Going::On => {
-            let prepared = node::prepare(table, e, m);
             let over = prepared.over;
             let inner = prepared.inner;
             let fill = prepared.fill;
             let mask = prepared.mask;
             let start = prepared.start;
-            let left = share - 1;
             run_below(
                 table,
                 &over,
@@ -319,31 +289,19 @@ fn run_on(
                 &fill,
                 &mask,
                 &start,
-                c,
-                e,
-                v,
-                m,
-                next,
+                counts,
                 last,
+                next,
                 counted,
-                left,
+                share - 1,
             )
         }
     }
 }
 
 // A state moved on by at most `share` nodes, by fewer only where the walk ends. One that has ended stays.
-pub fn run(
-    table: &[u8],
-    c: usize,
-    e: usize,
-    v: usize,
-    m: usize,
-    last: u32,
-    state: State,
-    share: u32,
-) -> State
-    requires { ⌜ Given (now table) c e v m last × Sound (tableOf (now table)) (state .sets) × (state .count + share < 2 ^ 32) ⌝ }
+pub fn run(table: &[u8], counts: Counts, last: SetNumber, state: State, share: Count) -> State
+    requires { ⌜ Given (now table) counts last × Sound (tableOf (now table)) (state .sets) × CanCount (state .count) share ⌝ }
     ensures { λ r. ⌜ Runs (tableOf (now (table .entry))) state share r ⌝ }
 {
     let going = state.going;
@@ -353,7 +311,7 @@ pub fn run(
         Going::On => {
             let sets = state.sets;
             let counted = state.count;
-            run_on(table, c, e, v, m, sets, last, counted, share)
+            run_on(table, counts, last, sets, counted, share)
         }
     }
 }
@@ -363,7 +321,7 @@ pub fn fresh() -> State
     ensures { λ r. ⌜ Fresh r ⌝ }
 {
     let sets = Sets {
-        set: [0u32; 12],
+        set: [0; bounds::MAX_VARIABLES],
         chosen: 0,
     };
     State {
@@ -374,19 +332,11 @@ pub fn fresh() -> State
 }
 
 // The walk from the root, with the table's counts and its last set number at hand.
-fn walk_from_root(
-    table: &[u8],
-    c: usize,
-    e: usize,
-    v: usize,
-    m: usize,
-    last: u32,
-    budget: u32,
-) -> Walked
-    requires { ⌜ Given (now table) c e v m last ⌝ }
-    ensures { λ r. ⌜ (outcomeOf r ≡ outcome (roleOrder (tableOf (now (table .entry)))) (tableOf (now (table .entry))) budget) × (r .sets .chosen ≤ v) ⌝ }
+fn walk_from_root(table: &[u8], counts: Counts, last: SetNumber, budget: Count) -> Walked
+    requires { ⌜ Given (now table) counts last ⌝ }
+    ensures { λ r. ⌜ (outcomeOf r ≡ outcome (roleOrder (tableOf (now (table .entry)))) (tableOf (now (table .entry))) budget) × (r .sets .chosen ≤ counts .v) ⌝ }
 {
-    let state = run(table, c, e, v, m, last, fresh(), budget);
+    let state = run(table, counts, last, fresh(), budget);
     let count = state.count;
     let sets = state.sets;
     let going = state.going;
@@ -410,22 +360,19 @@ fn walk_from_root(
 }
 
 // The last set number over n atoms.
-fn last_set(n: usize) -> u32
-    requires { ⌜ n ≤ 24 ⌝ }
+fn last_set(n: usize) -> SetNumber
+    requires { ⌜ n ≤ maxAtoms ⌝ }
     ensures { λ r. ⌜ r + 1 ≡ 2 ^ n ⌝ }
 {
-    (1u32 << n) - 1
+    (1 << n) - 1
 }
 
 // The walk over a readable table with a budget.
-pub fn walk(table: &[u8], budget: u32) -> Walked
+pub fn walk(table: &[u8], budget: Count) -> Walked
     requires { ⌜ T (isReadable (reading (now table))) ⌝ }
-    ensures { λ r. ⌜ (outcomeOf r ≡ outcome (roleOrder (tableOf (now (table .entry)))) (tableOf (now (table .entry))) budget) × (r .sets .chosen ≤ byteAt (now (table .entry)) 7) ⌝ }
+    ensures { λ r. ⌜ (outcomeOf r ≡ outcome (roleOrder (tableOf (now (table .entry)))) (tableOf (now (table .entry))) budget) × (r .sets .chosen ≤ headerOf (now (table .entry)) .v) ⌝ }
 {
-    let c = table::wide(table[table::CONSTANTS]);
-    let v = table::wide(table[table::VARIABLES]);
-    let e = table::wide(table[table::RESTRICTIONS]);
-    let m = table::wide(table[table::LINES]);
-    let last = last_set(c + e);
-    walk_from_root(table, c, e, v, m, last, budget)
+    let counts = node::counts_of(table);
+    let last = last_set(counts.c + counts.e);
+    walk_from_root(table, counts, last, budget)
 }

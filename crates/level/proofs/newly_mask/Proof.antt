@@ -4,10 +4,10 @@ use mathlib.Core.Logic.{⊎-elim}
 use Prim.Native.Nat.{_-_, _≤_}
 use native.Mathlib.Omega.{arith}
 use Rattle.el.specs.Test.{bit}
-use Rattle.node.specs.Node.{Masks}
+use Rattle.node.specs.Mask.{Masks}
 use Rattle.order.specs.BitLaws.{bit-on, bit-off}
 use Rattle.level.specs.Level.{newBy}
-use Rattle.level.specs.LevelLaws.{new-start, new-more, new-skip, new-empty, new-whole}
+use Rattle.level.specs.WaysLaws.{new-start, new-more, new-skip, new-empty, new-whole}
 use borrow.Author.Needs.{needs}
 use Rattle.level.proofs.newly_mask.Statement.{statement}
 use Rattle.level.proofs.newly_mask.Tie as tie
@@ -39,16 +39,5 @@ returns-2 c = new-whole _ _ _ _ _ (c .before .loop .inv .0) (c .loop-test .left)
 pub newly-mask-spec : {M : Type 1} → statement M
 newly-mask-spec =
     tie.close
-    (tie.spec
-    Inv-loop
-    μ-loop
-    returns
-    loop-holds
-    (λ c. search needs)
-    (λ c. search needs)
-    (λ c. search needs)
-    (λ c. search needs)
-    (λ c. search needs)
-    (λ c. search needs)
-    loop-again
-    returns-2)
+    (tie.spec Inv-loop μ-loop returns loop-holds (λ c. search needs) (λ c. search needs) (λ c. search needs) (λ c. search needs) (λ c. search needs)
+    (λ c. search needs) loop-again returns-2)

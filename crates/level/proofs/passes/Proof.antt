@@ -1,5 +1,5 @@
 -- `level::passes` meets its contract.
-use Rattle.level.specs.LevelLaws.{fresh-none, fresh-some}
+use Rattle.level.specs.ListedLaws.{fresh-none, fresh-some}
 use Rattle.level.proofs.passes.Statement.{statement}
 use Rattle.level.proofs.passes.Tie as tie
 

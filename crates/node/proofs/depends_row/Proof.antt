@@ -5,8 +5,9 @@ use Prim.Native.Nat.{_-_, _≤_}
 use native.Mathlib.Omega.{arith}
 use borrow.Author.Needs.{needs}
 use Rattle.el.specs.Test.{bit}
-use Rattle.node.specs.SquareLaws.{depends-start, depends-more, depends-skip, depends-whole}
-use Rattle.node.specs.Node.{Masks, dependsBy}
+use Rattle.node.specs.DependLaws.{depends-start, depends-more, depends-skip, depends-whole}
+use Rattle.node.specs.Mask.{Masks}
+use Rattle.node.specs.Square.{dependsBy}
 use Rattle.order.specs.BitLaws.{bit-on, bit-off}
 use Rattle.node.proofs.depends_row.Statement.{statement}
 use Rattle.node.proofs.depends_row.Tie as tie
@@ -30,21 +31,10 @@ loop-again c = (
 )
 
 returns : tie.Need-returns Inv-loop μ-loop
-returns c = depends-whole _ _ _ _ _ _ (c .before .loop .inv .0) (c .loop-test .left) (c .before .loop .inv .1)
+returns c = depends-whole _ _ _ _ _ (c .before .loop .inv .1) _ (c .before .loop .inv .0) (c .loop-test .left)
 
 pub depends-row-spec : {M : Type 1} → statement M
 depends-row-spec =
     tie.close
-    (tie.spec
-    Inv-loop
-    μ-loop
-    loop-holds
-    (λ c. search needs)
-    (λ c. search needs)
-    (λ c. search needs)
-    (λ c. search needs)
-    (λ c. search needs)
-    (λ c. search needs)
-    (λ c. search needs)
-    loop-again
-    returns)
+    (tie.spec Inv-loop μ-loop loop-holds (λ c. search needs) (λ c. search needs) (λ c. search needs) (λ c. search needs) (λ c. search needs)
+    (λ c. search needs) (λ c. search needs) loop-again returns)

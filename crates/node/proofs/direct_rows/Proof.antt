@@ -4,13 +4,14 @@ use Prim.Native.Nat.{_-_, _≤_}
 use native.Mathlib.Omega.{arith}
 use borrow.Author.Needs.{needs}
 use lib.ListN.{length, length-set}
-use Rattle.node.specs.SquareLaws.{DirectTo, direct-start, direct-more, direct-node}
-use Rattle.node.specs.Node.{dependsFrom}
+use Rattle.node.specs.DependLaws.{direct-start, direct-more, direct-whole}
+use Rattle.node.specs.Square.{dependsFrom, DirectTo}
+use Rattle.bounds.specs.Bounds.{maxVariables}
 use Rattle.node.proofs.direct_rows.Statement.{statement}
 use Rattle.node.proofs.direct_rows.Tie as tie
 
 abbrev Inv-loop : tie.InvT-loop
-Inv-loop fill c e set n row₀ x₀ row x = (x ≤ n) × (length row ≡ 12) × DirectTo (dependsFrom fill c e set) x row
+Inv-loop fill c e set n row₀ x₀ row x = (x ≤ n) × (length row ≡ maxVariables) × DirectTo (dependsFrom fill c e set) x row
 
 abbrev μ-loop : tie.MeasureT-loop
 μ-loop fill c e set n row₀ x₀ row x = n - x
@@ -23,21 +24,10 @@ unfolding dependsFrom
 loop-again c = (omega arith, simp length-set (c .before .before .loop .inv .1), direct-more _ _ _ _ (omega arith) (c .before .before .loop .inv .2) (c .depends-row .ensures))
 
 returns : tie.Need-returns Inv-loop μ-loop
-returns c = direct-node _ _ _ (c .before .before .before .before .args .sets) _ _ (c .before .before .before .before .pre .3) (c .loop-test .left) (c .before .loop .inv .2)
+returns c = direct-whole _ _ _ (c .before .before .before .before .args .sets) _ _ (c .before .before .before .before .pre .clean) (c .loop-test .left) (c .before .loop .inv .2)
 
 pub direct-rows-spec : {M : Type 1} → statement M
 direct-rows-spec =
     tie.close
-    (tie.spec
-    Inv-loop
-    μ-loop
-    loop-holds
-    (λ c. search needs)
-    (λ c. search needs)
-    (λ c κs. search needs)
-    (λ c. search needs)
-    (λ c. search needs)
-    (λ c. search needs)
-    (λ c. search needs)
-    loop-again
-    returns)
+    (tie.spec Inv-loop μ-loop loop-holds (λ c. search needs) (λ c. search needs) (λ c κs. search needs) (λ c. search needs) (λ c. search needs)
+    (λ c. search needs) (λ c. search needs) loop-again returns)

@@ -1,67 +1,61 @@
 -- `node::lines_of` meets its contract. The invariant: the masks and starts of the first n lines are made, and `at` is where line n begins; the measure is what is left of m.
-use mathlib.Core.Path.{_≡_}
+use mathlib.Core.Path.{_≡_, refl}
 use Prim.Native.Nat.{_-_, _≤_}
 use native.Mathlib.Omega.{arith}
 use borrow.Author.Needs.{needs}
 use lib.ListN.{length, length-set}
+use Rattle.bounds.specs.Bounds.{maxLines}
 use Rattle.table.specs.Layout.{lineStart}
 use Rattle.table.specs.Reading.{tableOf}
-use Rattle.table.specs.LayoutLaws.{start-first, start-next}
-use Rattle.node.specs.LineLaws.{lines-none, lines-more, lines-whole, starts-none, starts-more, starts-whole, line-lies, line-start, in-lines}
-use Rattle.node.specs.Node.{LineMasks, LineStarts}
+use Rattle.table.specs.LayoutLaws.{layout, start-next}
+use Rattle.node.specs.Mask.{LineMasks, LineStarts}
+use Rattle.node.specs.MaskLaws.{each-none, each-set, each-whole}
+use Rattle.node.specs.LineLaws.{line-lies}
 use Rattle.node.proofs.lines_of.Statement.{statement}
 use Rattle.node.proofs.lines_of.Tie as tie
 
 abbrev Inv-loop : tie.InvT-loop
-Inv-loop table e m mask₀ start₀ at₀ n₀ mask start at n = (n ≤ m) × (length mask ≡ 64) × (length start ≡ 64) × (at ≡ lineStart table n) × LineMasks (tableOf table) n mask × LineStarts table n start
+Inv-loop table fill m mask₀ start₀ at₀ n₀ mask start at n =
+    (n ≤ m) × (m ≤ maxLines) × (length mask ≡ maxLines) × (length start ≡ maxLines) × (at ≡ lineStart table n) × LineMasks (tableOf table) n mask × LineStarts table n start
 
 abbrev μ-loop : tie.MeasureT-loop
-μ-loop table e m mask₀ start₀ at₀ n₀ mask start at n = m - n
+μ-loop table fill m mask₀ start₀ at₀ n₀ mask start at n = m - n
+
+line-start-requires : tie.Need-line-start-requires Inv-loop μ-loop
+line-start-requires c κs = (c .before .before .pre .0 .0, omega arith)
 
 loop-holds : tie.Need-loop-holds Inv-loop μ-loop
-loop-holds c = (omega arith, search needs, search needs, start-first _ _ (c .before .pre .1), lines-none _ _, starts-none _ _)
+loop-holds c = let h = layout _ (c .before .before .before .pre .0 .0) .few-lines in (omega arith, omega arith, search needs, search needs, c .line-start .ensures, each-none, each-none)
+
+line-mask-requires : tie.Need-line-mask-requires Inv-loop μ-loop
+line-mask-requires c κs = let p = c .before .before .before .before .before .pre in let i = c .before .loop .inv in (p .0, (p .1 .0, record { number = c .before .loop .n; few = omega arith; begins = i .4 }))
 
 shared-slice-read-wide : tie.Need-shared-slice-read-wide Inv-loop μ-loop
-shared-slice-read-wide c = line-start _ _ _ _ (c .before .before .before .before .before .pre .0) (in-lines (c .before .before .before .before .before .args .table .now) _ _ (c .before .before .before .before .before .pre .2) (c .before .before .loop-test .taken)) (c .before .before .before .loop .inv .3)
+shared-slice-read-wide c = let l = line-lies _ (c .before .before .before .before .before .before .before .pre .0 .0) _ _ _ (let p = c .before .before .before .before .before .before .before .pre .1 .1 in omega arith) (c .before .before .before .loop .inv .4) refl in omega arith
+
+add-at : tie.Need-add-at Inv-loop μ-loop
+add-at c = let l = line-lies _ (c .before .before .before .before .before .before .before .before .pre .0 .0) _ _ _ (let p = c .before .before .before .before .before .before .before .before .pre .1 .1 in omega arith) (c .before .before .before .before .loop .inv .4) (c .wide .ensures) in omega arith
 
 add-at-2 : tie.Need-add-at-2 Inv-loop μ-loop
-add-at-2 c = let l = line-lies _ _ _ _ _ (c .before .before .before .before .before .before .pre .0) (in-lines (c .before .before .before .before .before .before .args .table .now) _ _ (c .before .before .before .before .before .before .pre .2) (c .before .before .before .loop-test .taken)) (c .before .before .before .before .loop .inv .3) (c .wide .ensures) in omega arith
-
-add-at-3 : tie.Need-add-at-3 Inv-loop μ-loop
-add-at-3 c = let l = line-lies _ _ _ _ _ (c .before .before .before .before .before .before .pre .0) (in-lines (c .before .before .before .before .before .before .args .table .now) _ _ (c .before .before .before .before .before .before .pre .2) (c .before .before .before .loop-test .taken)) (c .before .before .before .before .loop .inv .3) (c .wide .ensures) in omega arith
+add-at-2 c = let l = line-lies _ (c .before .before .before .before .before .before .before .before .pre .0 .0) _ _ _ (let p = c .before .before .before .before .before .before .before .before .pre .1 .1 in omega arith) (c .before .before .before .before .loop .inv .4) (c .wide .ensures) in omega arith
 
 loop-again : tie.Need-loop-again Inv-loop μ-loop
-loop-again c = (
-  omega arith,
-  simp length-set (c .before .before .before .before .loop .inv .1),
-  simp length-set (c .before .before .before .before .loop .inv .2),
-  start-next _ _ _ _ (c .before .before .before .before .loop .inv .3) (c .wide .ensures),
-  lines-more _ _ _ _ (omega arith) (c .before .before .before .before .loop .inv .4) (c .before .before .line-mask .ensures),
-  starts-more _ _ _ _ (omega arith) (c .before .before .before .before .loop .inv .5) (c .before .before .before .before .loop .inv .3),
-)
+loop-again c =
+    let i = c .before .before .before .before .loop .inv in (
+      omega arith,
+      i .1,
+      simp length-set (i .2),
+      simp length-set (i .3),
+      start-next _ _ _ _ (i .4) (c .wide .ensures),
+      each-set (i .5) (omega arith) (c .before .before .line-mask .ensures _ (let p = c .before .before .before .before .before .before .before .before .pre .1 .1 in omega arith) (i .4)),
+      each-set (i .6) (omega arith) (i .4),
+    )
 
 returns : tie.Need-returns Inv-loop μ-loop
-returns c = (lines-whole _ _ _ _ (c .before .loop .inv .0) (c .loop-test .left) (c .before .loop .inv .4), starts-whole _ _ _ _ (c .before .loop .inv .0) (c .loop-test .left) (c .before .loop .inv .5))
+returns c = let i = c .before .loop .inv in (each-whole (i .5) (i .0) (c .loop-test .left), each-whole (i .6) (i .0) (c .loop-test .left))
 
 pub lines-of-spec : {M : Type 1} → statement M
 lines-of-spec =
     tie.close
-    (tie.spec
-    Inv-loop
-    μ-loop
-    (λ c. search needs)
-    (λ c. search needs)
-    loop-holds
-    (λ c κs. search needs)
-    (λ c. search needs)
-    (λ c. search needs)
-    (λ c. search needs)
-    (λ c. search needs)
-    shared-slice-read-wide
-    (λ c κs. search needs)
-    add-at-2
-    add-at-3
-    (λ c. search needs)
-    (λ c. search needs)
-    loop-again
-    returns)
+    (tie.spec Inv-loop μ-loop line-start-requires loop-holds line-mask-requires (λ c. search needs) (λ c. search needs) (λ c. search needs)
+    (λ c. search needs) shared-slice-read-wide (λ c κs. search needs) add-at add-at-2 (λ c. search needs) (λ c. search needs) loop-again returns)

@@ -1,21 +1,25 @@
--- `node::prepare` meets its contract. What carries it: its parts put together.
+-- `node::prepare` meets its contract: its parts put together.
+use native.Mathlib.Omega.{arith}
 use borrow.Author.Needs.{needs}
-use Rattle.table.specs.LayoutLaws.{layout}
-use Rattle.node.specs.LineLaws.{prepared}
+use Rattle.node.specs.MaskLaws.{each-whole}
 use Rattle.node.proofs.prepare.Statement.{statement}
 use Rattle.node.proofs.prepare.Tie as tie
 
-rows-of-requires : tie.Need-rows-of-requires
-rows-of-requires c κs = (c .before .pre .0, c .before .pre .1)
-
-fill-masks-requires : tie.Need-fill-masks-requires
-fill-masks-requires c κs = (layout _ (c .before .before .before .before .pre .0), c .before .before .before .before .pre .1)
-
 lines-of-requires : tie.Need-lines-of-requires
-lines-of-requires c κs = (layout _ (c .before .before .before .before .before .pre .0), c .before .before .before .before .before .pre .1, c .before .before .before .before .before .pre .2)
+lines-of-requires c κs = let p = c .before .before .before .before .before .before .pre in let q = p .1 .restrictions in ((p .0, each-whole (c .before .fill-masks .ensures) (omega arith) (omega arith)), (search needs, p .1 .lines))
 
 returns : tie.Need-returns
-returns c = (prepared _ _ _ _ _ _ (c .before .before .before .before .before .before .before .before .pre .1) (c .before .before .before .before .before .before .before .before .pre .2) (c .before .before .before .fill-masks .ensures) (c .before .before .lines-of .ensures .0) (c .before .before .lines-of .ensures .1) (search needs) (search needs) (search needs), c .before .before .before .before .before .before .rows-of .ensures)
+returns c =
+    let p = c .before .before .before .before .before .before .before .before .before .pre .1 in let q = p .restrictions in let r = p .lines in
+    record {
+      rows = c .before .before .before .before .before .before .before .rows-of .ensures;
+      fills = each-whole (c .before .before .before .before .fill-masks .ensures) (omega arith) (omega arith);
+      masks = each-whole (c .before .before .lines-of .ensures .0) (omega arith) (omega arith);
+      starts = each-whole (c .before .before .lines-of .ensures .1) (omega arith) (omega arith);
+      fill-room = search needs;
+      mask-room = search needs;
+      start-room = search needs;
+    }
 
 pub prepare-spec : {M : Type 1} → statement M
-prepare-spec = tie.close (tie.spec rows-of-requires fill-masks-requires lines-of-requires returns)
+prepare-spec = tie.close (tie.spec (λ c κs. search needs) (λ c κs. search needs) (λ c. search needs) lines-of-requires returns)

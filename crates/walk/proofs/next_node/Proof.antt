@@ -5,13 +5,15 @@ use Prim.Native.Nat.{_+_, _^_, _≤_}
 use native.Mathlib.Omega.{arith}
 use lib.ListN.{length}
 use Rattle.el.specs.Table.{Table, atoms}
-use Rattle.walk.proofs.Laws.{Climbs, climbs-start, climbs-up, next-sibling, next-none}
+use Rattle.bounds.specs.Bounds.{maxVariables}
+use Rattle.walk.specs.Step.{Climbs}
+use Rattle.walk.specs.StepLaws.{climbs-start, climbs-up, next-sibling, next-none}
 use Rattle.walk.proofs.next_node.Statement.{statement}
 use Rattle.walk.proofs.next_node.Tie as tie
 
 abbrev Inv-loop : tie.InvT-loop
 Inv-loop last set₀ k₀ set k =
-    (length set ≡ 12) × (k ≤ k₀) × (k₀ ≤ 12) × ((t : Table) → 2 ^ atoms t ≡ last + 1 → Climbs t set₀ k₀ set k)
+    (length set ≡ maxVariables) × (k ≤ k₀) × (k₀ ≤ maxVariables) × ((t : Table) → 2 ^ atoms t ≡ last + 1 → Climbs t set₀ k₀ set k)
 
 abbrev μ-loop : tie.MeasureT-loop
 μ-loop last set₀ k₀ set k = k
@@ -36,21 +38,6 @@ returns-2 c = λ t e. next-none t _ _ _ _ (c .before .loop .inv .3 t e) (omega a
 pub next-node-spec : {M : Type 1} → statement M
 next-node-spec =
     tie.close
-    (tie.spec
-    Inv-loop
-    μ-loop
-    loop-holds
-    (λ c. search needs)
-    (λ c. search needs)
-    (λ c. search needs)
-    (λ c. search needs)
-    (λ c. search needs)
-    (λ c. search needs)
-    (λ c. search needs)
-    returns
-    (λ c. search needs)
-    (λ c. search needs)
-    (λ c. search needs)
-    (λ c. search needs)
-    loop-again
+    (tie.spec Inv-loop μ-loop loop-holds (λ c. search needs) (λ c. search needs) (λ c. search needs) (λ c. search needs) (λ c. search needs)
+    (λ c. search needs) (λ c. search needs) returns (λ c. search needs) (λ c. search needs) (λ c. search needs) (λ c. search needs) loop-again
     returns-2)

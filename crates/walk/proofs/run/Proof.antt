@@ -1,6 +1,6 @@
 -- `walk::run` meets its contract: a state that has ended stays, and any other is moved on.
 use Rattle.walk.specs.declared.Going.the-variants.{Solved, Over}
-use Rattle.walk.proofs.Laws.{runs-stays, runs-going}
+use Rattle.walk.specs.RunLaws.{runs-stays, runs-going}
 use borrow.Author.Needs.{needs}
 use Rattle.walk.proofs.run.Statement.{statement}
 use Rattle.walk.proofs.run.Tie as tie

@@ -7,45 +7,47 @@ use lib.ListN.{take}
 use Rattle.table.specs.Reading.{tableOf}
 use Rattle.level.specs.Level.{Levels}
 use Rattle.walk.specs.declared.Going.the-variants.{Solved, Over}
-use Rattle.walk.proofs.Laws.{given-node, given-sweep, Running, running-start, running-fits, running-on, running-ended, running-spent}
+use Rattle.walk.specs.Step.{Running}
+use Rattle.walk.specs.GivenLaws.{given-square, given-level, given-sweep}
+use Rattle.walk.specs.RunLaws.{running-start, running-fits, running-on, running-ended, running-spent}
 use Rattle.walk.proofs.run_below.Statement.{statement}
 use Rattle.walk.proofs.run_below.Tie as tie
 
 abbrev Inv-loop : tie.InvT-loop
-Inv-loop table over inner fill mask start c e v m last counted share end sets₀ level₀ count₀ sets level count =
-    Running (tableOf table) sets₀ counted end sets count × Levels (tableOf table) (take (sets .chosen - 1) (sets .set)) m level
+Inv-loop table over inner fill mask start counts last counted share end sets₀ level₀ count₀ sets level count =
+    Running (tableOf table) sets₀ counted end sets count × Levels (tableOf table) (take (sets .chosen - 1) (sets .set)) (counts .m) level
 
 abbrev μ-loop : tie.MeasureT-loop
-μ-loop table over inner fill mask start c e v m last counted share end sets₀ level₀ count₀ sets level count = end - count
+μ-loop table over inner fill mask start counts last counted share end sets₀ level₀ count₀ sets level count = end - count
 
 level-of-requires : tie.Need-level-of-requires Inv-loop μ-loop
-level-of-requires c κs = (let p = c .before .before .before .before .before .before .pre in (given-node (p .0 .0) _ (p .1 .0 .in-range), p .0 .1, p .1 .1))
+level-of-requires c κs = let p = c .before .before .before .before .before .before .pre in given-square (p .0 .0) _ (p .1 .0 .in-range) (p .0 .1) (p .1 .1)
 
 loop-holds : tie.Need-loop-holds Inv-loop μ-loop
-loop-holds c = (let p = c .before .before .before .before .before .before .before .pre in (running-start _ _ _ _ (omega arith) (p .1 .0) (p .1 .1), c .level-of .ensures))
+loop-holds c = let p = c .before .before .before .before .before .before .before .pre in (running-start _ _ _ _ (omega arith) (p .1 .0) (p .1 .1), given-level (p .0 .0) _ (p .1 .0 .in-range) (p .0 .1) (p .1 .1) _ (c .level-of .ensures))
 
 advance-requires : tie.Need-advance-requires Inv-loop μ-loop
-advance-requires c κs = (let p = c .before .before .before .before .before .before .before .before .before .pre in let l = c .before .loop in let r = l .inv .0 in (p .0 .0, given-sweep (p .0 .0) (l .sets) (r .sound .in-range) _ _ _ (l .level) (p .0 .1) (r .sound .live-above) (r .parent) (l .inv .1), omega arith, p .0 .2))
+advance-requires c κs = let p = c .before .before .before .before .before .before .before .before .before .pre .0 in let l = c .before .loop in let r = l .inv .0 in (p .0, given-sweep (p .0) (l .sets) (r .sound .in-range) (p .1) (r .parent) (l .level) (r .sound .live-above) (l .inv .1), omega arith)
 
 add-count : tie.Need-add-count Inv-loop μ-loop
-add-count c = (let w = c .before .before .before .before .before .before .before .before .before .before .before .pre .1 .2 in let h = running-fits (c .before .before .before .loop .inv .0) (c .before .advance .result) (c .before .before .loop-test .taken) (c .before .advance .ensures) in search needs)
+add-count c = let w = c .before .before .before .before .before .before .before .before .before .before .before .pre .1 .2 in let h = running-fits (c .before .before .before .loop .inv .0) (c .before .advance .result) (c .before .before .loop-test .taken) (c .before .advance .ensures) in search needs
 
 returns : tie.Need-returns Inv-loop μ-loop
-returns c = (let l = c .before .before .before .before .before .before .loop in running-ended (l .inv .0) (c .before .before .before .before .advance .result) (c .before .before .before .before .before .loop-test .taken) (c .before .before .before .before .advance .ensures) Solved (c .enum-told .given .1) tt _ (omega arith))
+returns c = running-ended (c .before .before .before .before .before .before .loop .inv .0) (c .before .before .before .before .advance .result) (c .before .before .before .before .before .loop-test .taken) (c .before .before .before .before .advance .ensures) Solved (c .enum-told .given .1) tt _ (omega arith)
 
 returns-2 : tie.Need-returns-2 Inv-loop μ-loop
-returns-2 c = (let l = c .before .before .before .before .before .before .loop in running-ended (l .inv .0) (c .before .before .before .before .advance .result) (c .before .before .before .before .before .loop-test .taken) (c .before .before .before .before .advance .ensures) Over (c .enum-told2 .given .1) tt _ (omega arith))
+returns-2 c = running-ended (c .before .before .before .before .before .before .loop .inv .0) (c .before .before .before .before .advance .result) (c .before .before .before .before .before .loop-test .taken) (c .before .before .before .before .advance .ensures) Over (c .enum-told2 .given .1) tt _ (omega arith)
 
 level-of-requires-2 : tie.Need-level-of-requires-2 Inv-loop μ-loop
-level-of-requires-2 c κs =
-    (let p = c .before .before .before .before .before .before .before .before .before .before .before .before .before .before .pre in let l = c .before .before .before .before .before .before .loop in
-    let r = running-on (l .inv .0) (c .before .before .before .before .advance .result) (c .before .before .before .before .before .loop-test .taken) (c .before .before .before .before .advance .ensures) (c .enum-told3 .given .1) in (given-node (p .0 .0) _ (r .sound .in-range), p .0 .1, r .parent))
+level-of-requires-2 c κs = let p = c .before .before .before .before .before .before .before .before .before .before .before .before .before .before .pre .0 in let r = running-on (c .before .before .before .before .before .before .loop .inv .0) (c .before .before .before .before .advance .result) (c .before .before .before .before .before .loop-test .taken) (c .before .before .before .before .advance .ensures) (c .enum-told3 .given .1) in given-square (p .0) _ (r .sound .in-range) (p .1) (r .parent)
 
 loop-less : tie.Need-loop-less Inv-loop μ-loop
-loop-less c = (let l = c .before .before .before .before .before .before .before .loop in let h = running-fits (l .inv .0) (c .before .before .before .before .before .advance .result) (c .before .before .before .before .before .before .loop-test .taken) (c .before .before .before .before .before .advance .ensures) in omega arith)
+loop-less c = let h = running-fits (c .before .before .before .before .before .before .before .loop .inv .0) (c .before .before .before .before .before .advance .result) (c .before .before .before .before .before .before .loop-test .taken) (c .before .before .before .before .before .advance .ensures) in omega arith
 
 loop-again : tie.Need-loop-again Inv-loop μ-loop
-loop-again c = (let l = c .before .before .before .before .before .before .before .loop in (running-on (l .inv .0) (c .before .before .before .before .before .advance .result) (c .before .before .before .before .before .before .loop-test .taken) (c .before .before .before .before .before .advance .ensures) (c .before .enum-told3 .given .1), c .level-of2 .ensures))
+loop-again c =
+    let p = c .before .before .before .before .before .before .before .before .before .before .before .before .before .before .before .pre .0 in let r = running-on (c .before .before .before .before .before .before .before .loop .inv .0) (c .before .before .before .before .before .advance .result) (c .before .before .before .before .before .before .loop-test .taken) (c .before .before .before .before .before .advance .ensures) (c .before .enum-told3 .given .1) in
+    (r, given-level (p .0) _ (r .sound .in-range) (p .1) (r .parent) _ (c .level-of2 .ensures))
 
 returns-3 : tie.Need-returns-3 Inv-loop μ-loop
 returns-3 c = running-spent (c .before .loop .inv .0) _ (omega arith) (c .loop-test .left)
@@ -53,21 +55,5 @@ returns-3 c = running-spent (c .before .loop .inv .0) _ (omega arith) (c .loop-t
 pub run-below-spec : {M : Type 1} → statement M
 run-below-spec =
     tie.close
-    (tie.spec
-    Inv-loop
-    μ-loop
-    (λ c. search needs)
-    level-of-requires
-    loop-holds
-    (λ c. omega arith)
-    advance-requires
-    add-count
-    (λ c. c .match .keys1)
-    returns
-    (λ c. c .match .keys2)
-    returns-2
-    (λ c. c .match .keys3)
-    level-of-requires-2
-    loop-less
-    loop-again
-    returns-3)
+    (tie.spec Inv-loop μ-loop (λ c. search needs) level-of-requires loop-holds (λ c. omega arith) advance-requires add-count (λ c. c .match .keys1) returns
+    (λ c. c .match .keys2) returns-2 (λ c. c .match .keys3) level-of-requires-2 loop-less loop-again returns-3)

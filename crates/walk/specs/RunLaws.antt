@@ -4,7 +4,8 @@
 --   running-start, running-fits, running-on, running-spent, running-ended == the loop of a run: its turns and ends
 --   runs-one, runs-more == a run by where its first node leads
 --   runs-stays, runs-going == a run by its state
-use mathlib.Core.Path.{_≡_, refl, sym, subst}
+--   runs-twice         == A RUN AFTER A RUN IS ONE RUN
+use mathlib.Core.Path.{_≡_, refl, sym, ap, subst, _∙_}
 use Prim.Native.Nat.{ℕ, _+_, _-_, _≤_, _<_}
 use native.Mathlib.Nat.{add-zero}
 use native.Mathlib.Omega.{arith}
@@ -83,3 +84,32 @@ runs-stays t state share g e h = subst (λ (x : Going). RunsAs t x state share s
 pub runs-going : (t : Table) (state : State) (share : ℕ) (to : State) → state .going ≡ On → RunsOn t (state .sets) (state .count) share to → Runs t state share to
 unfolding Runs
 runs-going t state share to e r = subst (λ (x : Going). RunsAs t x state share to) (sym e) r
+
+-- A RUN AFTER A RUN IS ONE RUN: a state moved on by a share, and what comes of it by another, is the state moved on by both
+pub runs-twice : (t : Table) (from mid to : State) (a b : ℕ) → Runs t from a mid → Runs t mid b to → Runs t from (a + b) to
+unfolding Runs
+runs-twice t from mid to a b first second = at (from .going) refl first
+  where
+    -- a state that has ended stays
+    stays : (g : Going) → mid .going ≡ g → HasEnded g → to ≡ mid
+    stays Solved e _ = subst (λ (x : Going). RunsAs t x mid b to) e second
+    stays On e z = absurd z
+    stays Over e _ = subst (λ (x : Going). RunsAs t x mid b to) e second
+
+    on : RunsOn t (from .sets) (from .count) a mid → (g : Going) → mid .going ≡ g → RunsOn t (from .sets) (from .count) (a + b) to
+    on r Solved e = let f : r .many ≤ a = r .few in subst (RunsOn t (from .sets) (from .count) (a + b)) (sym (stays Solved e tt)) (runs-ended (r .ran) (subst HasEnded (sym e) tt) (omega arith))
+    on r Over e = let f : r .many ≤ a = r .few in subst (RunsOn t (from .sets) (from .count) (a + b)) (sym (stays Over e tt)) (runs-ended (r .ran) (subst HasEnded (sym e) tt) (omega arith))
+    on r On e =
+        let s : RunsOn t (mid .sets) (mid .count) b to = subst (λ (x : Going). RunsAs t x mid b to) e second in
+        let q : r .many ≡ a = r .whole e in let f : s .many ≤ b = s .few in
+        record {
+          many = r .many + s .many;
+          few = omega arith;
+          whole = λ o. let w : s .many ≡ b = s .whole o in omega arith;
+          ran = ran-on (r .ran .goes) e (subst (λ (n : ℕ). Ran t (mid .sets) n (s .many) to) (r .ran .counted) (s .ran));
+        }
+
+    at : (g : Going) → from .going ≡ g → RunsAs t g from a mid → RunsAs t g from (a + b) to
+    at Solved e r = stays Solved (ap (λ (x : State). x .going) r ∙ e) tt ∙ r
+    at On e r = on r (mid .going) refl
+    at Over e r = stays Over (ap (λ (x : State). x .going) r ∙ e) tt ∙ r

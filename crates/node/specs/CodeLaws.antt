@@ -7,21 +7,21 @@
 use mathlib.Core.Path.{_≡_, refl, sym, ap, _∙_}
 use mathlib.Core.Bool.{false, or-false}
 use mathlib.Core.List.{List, [], _∷_}
-use mathlib.Core.Option.{some, Option·none-ne-some}
+use mathlib.Core.Option.{some}
 use Prim.Native.Nat.{ℕ, _*_, _%_, _^_, _≤_, _<_}
 use native.Mathlib.Omega.{arith}
 use lib.Dec.{eqb}
 use lib.ListN.{length}
 use Rattle.el.specs.Test.{anyOf}
 use Rattle.el.specs.TestLaws.{bit-none}
-use Rattle.el.specs.Table.{Filler, topF, constantF, variableF, Entry, constant, restriction, variable, Row, rowAt}
+use Rattle.el.specs.Table.{Filler, topF, constantF, variableF, Entry, restriction, variable, Row, rowAt}
 use Rattle.el.specs.Assignment.{isVariable}
 use Rattle.el.specs.Walk.{fillerVariables, entryVariables}
 use Rattle.bounds.specs.Bounds.{maskBits, masks}
 use Rattle.table.specs.declared.Kind.{Kind}
-use Rattle.table.specs.declared.Kind.the-variants.{Top, Constant, Restriction, Variable, Other}
-use Rattle.table.specs.Code.{kindOf, fillerOfKind, fillerOf, entryOfKind, entryOf}
-use Rattle.table.specs.CodeLaws.{within-some}
+use Rattle.table.specs.declared.Kind.the-variants.{Restriction, Variable}
+use Rattle.table.specs.Code.{kindOf, fillerOfKind, fillerOf, entryOfKind, entryOf, WritesFiller, fills-top, fills-constant, fills-variable, WritesEntry, enters-constant, enters-restriction, enters-variable}
+use Rattle.table.specs.CodeLaws.{within-some, filler-writes, entry-writes}
 use Rattle.node.specs.Mask.{Masks, isAmong, isNamed, Names, MaskFits, FillMask}
 use Rattle.node.specs.MaskLaws.{mask-one}
 
@@ -34,15 +34,12 @@ module _ (b : ℕ) where
 
 module _ (c v b : ℕ) (f : Filler) (is : fillerOf c v b ≡ some f) where
   pub filler-says : (y : ℕ) → isNamed (kindOf b) y ≡ isVariable y f
-  unfolding fillerOf fillerOfKind
-  filler-says y = go (kindOf b) is
+  filler-says y = go (filler-writes c v b f is)
     where
-      go : (k : Kind) → fillerOfKind c v k ≡ some f → isNamed k y ≡ isVariable y f
-      go Top q = let g : topF ≡ f = cc in rw (sym g) refl
-      go (Constant k) q = rw (sym (within-some k c (constantF k) f q .1)) refl
-      go (Restriction k) q = absurd (Option·none-ne-some f q)
-      go (Variable k) q = ap (isVariable y) (within-some k v (variableF k) f q .1)
-      go Other q = absurd (Option·none-ne-some f q)
+      go : {g : Filler} → WritesFiller c v b g → isNamed (kindOf b) y ≡ isVariable y g
+      go (fills-top i) = ap (λ (z : Kind). isNamed z y) i
+      go (fills-constant k i h) = ap (λ (z : Kind). isNamed z y) i
+      go (fills-variable k i h) = ap (λ (z : Kind). isNamed z y) i
 
   pub filler-names : v ≤ maskBits → Names b
   unfolding fillerOf fillerOfKind Names
@@ -79,12 +76,10 @@ module _ (c e v b : ℕ) (x : Entry) (is : entryOf c e v b ≡ some x) where
         f (omega arith) y ∙ ap (λ (i : ℕ). isVariable y (rowAt rows i .filler)) at ∙ among-filler (rowAt rows k .filler) y ∙ ap (λ (z : Entry). isAmong (entryVariables rows z) y) (r .1)
 
     pub entry-says : ((k : ℕ) → kindOf b ≡ Restriction k → ⊥) → (y : ℕ) → isNamed (kindOf b) y ≡ isAmong (entryVariables rows x) y
-    unfolding entryOfKind isAmong anyOf
-    entry-says other y = go (kindOf b) refl (entry-kind (kindOf b) refl)
+    unfolding isAmong anyOf
+    entry-says other y = go (entry-writes c e v b x is)
       where
-        go : (k : Kind) → kindOf b ≡ k → entryOfKind c e v k ≡ some x → isNamed k y ≡ isAmong (entryVariables rows x) y
-        go Top q r = absurd (Option·none-ne-some x r)
-        go (Constant k) q r = rw (sym (within-some k c (constant k) x r .1)) refl
-        go (Restriction k) q r = absurd (other k q)
-        go (Variable k) q r = sym (alone k y) ∙ ap (λ (z : Entry). isAmong (entryVariables rows z) y) (within-some k v (variable k) x r .1)
-        go Other q r = absurd (Option·none-ne-some x r)
+        go : {z : Entry} → WritesEntry c e v b z → isNamed (kindOf b) y ≡ isAmong (entryVariables rows z) y
+        go (enters-constant k i h) = ap (λ (z : Kind). isNamed z y) i
+        go (enters-restriction k i h) = absurd (other k i)
+        go (enters-variable k i h) = ap (λ (z : Kind). isNamed z y) i ∙ sym (alone k y)

@@ -1,13 +1,11 @@
--- Where a line lies, the mask of its variables, and what is prepared of a table.
+-- The mask of a line's variables.
 --
---   line-lies           == where a line of a readable table lies
 --   line-fits           == the codes of its entries fit into masks
+--   line-next           == where the next line begins
 --   left-start, left-more, line-whole == the variables of a line, entry by entry
---   prepared            == all masks and starts together
 use mathlib.Core.Path.{_≡_, refl, sym, ap, subst, _∙_}
 use mathlib.Core.Bool.{_||_}
 use mathlib.Core.List.{List, [], _∷_, _++_, append-assoc, append-nil}
-use mathlib.Core.Option.{some}
 use Prim.Native.Nat.{ℕ, _+_, _≤_, _<_}
 use native.Mathlib.Omega.{arith}
 use native.Mathlib.Numerals.{add-one}
@@ -20,31 +18,24 @@ use Rattle.el.specs.TestLaws.{anyOf-append}
 use Rattle.el.specs.Table.{Entry, constant, Row, Line}
 use Rattle.el.specs.Walk.{entryVariables, entriesVariables, lineVariables}
 use Rattle.bounds.specs.Bounds.{maxAtoms, maxVariables}
-use Rattle.table.specs.Code.{entryOf}
-use Rattle.table.specs.Reading.{byteAt, reading, isReadable, headerOf}
-use Rattle.table.specs.Layout.{lineStart}
-use Rattle.table.specs.LayoutLaws.{layout}
+use Rattle.table.specs.Reading.{reading, isReadable, headerOf}
+use Rattle.table.specs.Layout.{lineStart, IsEntryCode, AtLine}
+use Rattle.table.specs.LayoutLaws.{layout, start-next, line-inside, left-many}
 use Rattle.node.specs.Mask.{Masks, isAmong, MaskFits, leftTo}
 use Rattle.node.specs.MaskLaws.{masks-none, masks-or}
 use Rattle.node.specs.CodeLaws.{entry-fits}
-use Rattle.node.specs.Node.{LineLies}
 
-module _ (s : List ℕ) (ok : T (isReadable (reading s))) where
-  pub line-lies : (n at p : ℕ) → n < headerOf s .m → at ≡ lineStart s n → p ≡ byteAt s at → LineLies s n at p
-  line-lies n at p h e q =
-      subst (LineLies s n at) (sym q)
-      (subst (λ (k : ℕ). LineLies s n k (byteAt s k)) (sym e) record {
-        inside = layout s ok .line-in n h;
-        few = layout s ok .line-few n h;
-        count = layout s ok .line-left n h;
-        entry = λ i l. layout s ok .line-entry n i h l;
-        last = layout s ok .line-right n h;
-      })
+pub line-fits : (s : List ℕ) → T (isReadable (reading s)) → (fill : List ℕ) (b : ℕ) (x : Entry) → length fill ≡ maxAtoms → IsEntryCode s x b → MaskFits fill b
+unfolding IsEntryCode
+line-fits s ok fill b x room is =
+    let v : headerOf s .v ≤ maxVariables = layout s ok .few-variables in let a : headerOf s .c + headerOf s .e ≤ maxAtoms = layout s ok .few-atoms in
+    entry-fits (headerOf s .c) (headerOf s .e) (headerOf s .v) b x is fill (omega arith) (omega arith)
 
-  pub line-fits : (fill : List ℕ) (b : ℕ) (x : Entry) → length fill ≡ maxAtoms → entryOf (headerOf s .c) (headerOf s .e) (headerOf s .v) b ≡ some x → MaskFits fill b
-  line-fits fill b x room is =
-      let v : headerOf s .v ≤ maxVariables = layout s ok .few-variables in let a : headerOf s .c + headerOf s .e ≤ maxAtoms = layout s ok .few-atoms in
-      entry-fits (headerOf s .c) (headerOf s .e) (headerOf s .v) b x is fill (omega arith) (omega arith)
+pub line-next : (s : List ℕ) → T (isReadable (reading s)) → (n at p : ℕ) → n < headerOf s .m → at ≡ lineStart s n → AtLine s at (λ l. p ≡ length (l .left))
+    → (at + p + 2 ≡ lineStart s (n + 1)) × (at + p + 2 ≤ length s)
+line-next s ok n at p h e count =
+    let q = count n h e ∙ sym (left-many s ok at n h e) in
+    (start-next s n at p e q, subst (λ (k : ℕ). at + k + 2 ≤ length s) (sym q) (line-inside s ok n at h e))
 
 ----------------------------------------------------------------------------------------------------
 -- The variables of a line, entry by entry
@@ -63,7 +54,7 @@ module _ (rows : List Row) (l : Line) where
   unfolding leftTo isAmong anyOf
   left-start = masks-none
 
-  module _ (p : ℕ) (count : length (l .left) ≡ p) (i m a : ℕ) (f : Masks (leftTo rows l i) m) where
+  module _ (p : ℕ) (count : p ≡ length (l .left)) (i m a : ℕ) (f : Masks (leftTo rows l i) m) where
     pub left-more : i < p → Masks (isAmong (entryVariables rows (getD (l .left) i (constant 0)))) a → Masks (leftTo rows l (i + 1)) (bitOr m a)
     unfolding leftTo
     left-more h g y =

@@ -10,7 +10,8 @@
 --   Each P n l           == P of each of the first n places of the list l, and of what stands there
 --   FillMask rows k m    == m is the mask of the variable inside restriction k; `FillMasks rows n fill`, for each of the first n
 --   Fills t c e fill     == t has c constants and e restrictions, and `fill` has their masks
---   LineMask t n m       == m is the mask of the variables of line n, fillers included; `LineMasks t n mask`, for each of the first n
+--   LineMask rows l m    == m is the mask of the variables of the line l, fillers included
+--   LineMasks t n mask   == `mask` has such a mask for each of the first n lines of t
 --   LineStarts s n start == `start` has the byte where each of the first n lines begins
 use mathlib.Core.Path.{_≡_}
 use mathlib.Core.Bool.{Bool, false, _&&_}
@@ -69,11 +70,11 @@ pub record Fills (t : Table) (c e : ℕ) (fill : List ℕ) : Type 0 where
   pub masks : FillMasks (t .rows) e fill
 
 -- "every variable in it, fillers included"
-abbrev pub LineMask : Table → ℕ → ℕ → Type 0
-LineMask t n m = Masks (isAmong (lineVariables (t .rows) (lineAt (t .lines) n))) m
+abbrev pub LineMask : List Row → Line → ℕ → Type 0
+LineMask rows l m = Masks (isAmong (lineVariables rows l)) m
 
 abbrev pub LineMasks : Table → ℕ → List ℕ → Type 0
-LineMasks t n mask = Each (LineMask t) n mask
+LineMasks t n mask = Each (λ i. LineMask (t .rows) (lineAt (t .lines) i)) n mask
 
 abbrev pub LineStarts : List ℕ → ℕ → List ℕ → Type 0
 LineStarts s n start = Each (λ i at. at ≡ lineStart s i) n start

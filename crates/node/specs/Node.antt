@@ -3,7 +3,6 @@
 --   nodeOf sets       == the node: the set numbers of the chosen variables
 --   Clean sets        == a variable that is not chosen has the empty set
 --   CountsOf s counts == the counts are those of the bytes s
---   LineLies s n at p == line n of the bytes s begins at the byte `at` with the left count p
 --   preparedOf over inner fill mask start == what is prepared, from its parts
 --   Prepares s p      == p is what is prepared of the bytes s, each list with room for the longest table
 --   NodeGiven s counts sets == s is a readable table with these counts, and the sets are a node of it
@@ -14,18 +13,16 @@
 use mathlib.Core.Path.{_≡_}
 use mathlib.Core.Bool.{Bool, true, false, _&&_, not}
 use mathlib.Core.List.{List, [], _∷_}
-use mathlib.Core.Option.{some}
-use Prim.Native.Nat.{ℕ, suc, _+_, _≤_, _<_}
+use Prim.Native.Nat.{ℕ, suc, _≤_, _<_}
 use lib.Dec.{T, eqb}
 use lib.Bits.{bitAnd}
 use lib.ListN.{length, getD, take}
-use Rattle.el.specs.Table.{constant, Line, Table, roleOrder}
+use Rattle.el.specs.Table.{Line, Table, roleOrder}
 use Rattle.el.specs.Meaning.{holds}
 use Rattle.el.specs.Assignment.{induced}
 use Rattle.el.specs.Walk.{Node, fails}
-use Rattle.bounds.specs.Bounds.{maxAtoms, maxLines, maxLeft}
-use Rattle.table.specs.Code.{entryOf}
-use Rattle.table.specs.Reading.{byteAt, reading, isReadable, tableOf, headerOf}
+use Rattle.bounds.specs.Bounds.{maxAtoms, maxLines}
+use Rattle.table.specs.Reading.{reading, isReadable, tableOf, headerOf}
 use Rattle.table.specs.Layout.{lineAt}
 use Rattle.order.specs.Given.{RowsGiven}
 use Rattle.node.specs.declared.Sets.{Sets}
@@ -45,14 +42,6 @@ pub record CountsOf (s : List ℕ) (counts : Counts) : Type 0 where
   pub restrictions : counts .e ≡ headerOf s .e
   pub variables : counts .v ≡ headerOf s .v
   pub lines : counts .m ≡ headerOf s .m
-
-pub record LineLies (s : List ℕ) (n at p : ℕ) : Type 0 where
-  pub inside : at + p + 2 ≤ length s
-  pub few : p ≤ maxLeft
-  pub count : length (lineAt (tableOf s .lines) n .left) ≡ p
-  pub entry : (i : ℕ) → i < p
-      → entryOf (headerOf s .c) (headerOf s .e) (headerOf s .v) (byteAt s (at + 1 + i)) ≡ some (getD (lineAt (tableOf s .lines) n .left) i (constant 0))
-  pub last : entryOf (headerOf s .c) (headerOf s .e) (headerOf s .v) (byteAt s (at + 1 + p)) ≡ some (lineAt (tableOf s .lines) n .right)
 
 abbrev pub preparedOf : List ℕ → List ℕ → List ℕ → List ℕ → List ℕ → Prepared
 preparedOf over inner fill mask start = record { over = over; inner = inner; fill = fill; mask = mask; start = start }

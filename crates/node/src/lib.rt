@@ -20,9 +20,8 @@ ghost use Rattle.el.specs.Walk.{entryVariables, dead};
 ghost use Rattle.bounds.specs.Bounds.{maxAtoms, maxVariables};
 ghost use Rattle.table.specs.Code.{kindOf, entryOf};
 ghost use Rattle.table.specs.Reading.{reading, isReadable, tableOf, headerOf};
-ghost use Rattle.table.specs.Layout.{lineStart};
+ghost use Rattle.table.specs.Layout.{LineBegins, AtLine};
 ghost use mathlib.Core.List.{List};
-ghost use Rattle.order.specs.Given.{LineBegins};
 ghost use Rattle.node.specs.Mask.{Masks, Picks, isAmong, isNamed, Names, MaskFits, FillMasks, Fills, LineMask, LineMasks, LineStarts};
 ghost use Rattle.node.specs.Square.{SquareGiven, dependsBy, dependsFrom, Direct, Closes, Squares, staysBelow, leadsTo};
 ghost use Rattle.node.specs.Node.{nodeOf, CountsOf, Prepares, NodeGiven, firstFailing};
@@ -67,10 +66,11 @@ pub fn counts_of(table: &[u8]) -> Counts
     requires { ⌜ T (isReadable (reading (now table))) ⌝ }
     ensures { λ r. ⌜ CountsOf (now (table .entry)) r ⌝ }
 {
-    let c = table::wide(table[table::CONSTANTS]);
-    let e = table::wide(table[table::RESTRICTIONS]);
-    let v = table::wide(table[table::VARIABLES]);
-    let m = table::wide(table[table::LINES]);
+    let header = table::header_of(table);
+    let c = table::wide(header.c);
+    let e = table::wide(header.e);
+    let v = table::wide(header.v);
+    let m = table::wide(header.m);
     Counts { c, e, v, m }
 }
 
@@ -244,16 +244,16 @@ fn entry_mask(fill: &[VariableMask], code: u8) -> VariableMask
 fn line_mask(table: &[u8], fill: &[VariableMask], at: usize) -> VariableMask
     requires { ⌜ T (isReadable (reading (now table))) × FillMasks (tableOf (now table) .rows) (headerOf (now table) .e) (now fill) ⌝ }
     requires { ⌜ (length (now fill) ≡ maxAtoms) × LineBegins (now table) at ⌝ }
-    ensures { λ r. ⌜ ((n : ℕ) → n < headerOf (now (table .entry)) .m → at ≡ lineStart (now (table .entry)) n → LineMask (tableOf (now (table .entry))) n r) ⌝ }
+    ensures { λ r. ⌜ AtLine (now (table .entry)) at (λ l. LineMask (tableOf (now (table .entry)) .rows) l r) ⌝ }
 {
-    let p = table::wide(table[at]);
+    let p = table::left_count(table, at);
     let mut mask = 0;
     let mut i = 0;
     while i < p {
-        mask = mask | entry_mask(fill, table[at + 1 + i]);
+        mask = mask | entry_mask(fill, table::left_code(table, at, i));
         i += 1;
     }
-    mask | entry_mask(fill, table[at + 1 + p])
+    mask | entry_mask(fill, table::right_code(table, at))
 }
 
 // The mask of each line's variables, and the byte where it begins.
@@ -269,7 +269,7 @@ fn lines_of(table: &[u8], fill: &[VariableMask], m: usize) -> Lines
     while n < m {
         mask[n] = line_mask(table, fill, at);
         start[n] = at;
-        at = at + table::wide(table[at]) + 2;
+        at = at + table::left_count(table, at) + 2;
         n += 1;
     }
     Lines { mask, start }

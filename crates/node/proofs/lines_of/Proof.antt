@@ -1,5 +1,5 @@
 -- `node::lines_of` meets its contract. The invariant: the masks and starts of the first n lines are made, and `at` is where line n begins; the measure is what is left of m.
-use mathlib.Core.Path.{_≡_, refl}
+use mathlib.Core.Path.{_≡_}
 use Prim.Native.Nat.{_-_, _≤_}
 use native.Mathlib.Omega.{arith}
 use borrow.Author.Needs.{needs}
@@ -7,10 +7,10 @@ use lib.ListN.{length, length-set}
 use Rattle.bounds.specs.Bounds.{maxLines}
 use Rattle.table.specs.Layout.{lineStart}
 use Rattle.table.specs.Reading.{tableOf}
-use Rattle.table.specs.LayoutLaws.{layout, start-next}
+use Rattle.table.specs.LayoutLaws.{layout}
 use Rattle.node.specs.Mask.{LineMasks, LineStarts}
 use Rattle.node.specs.MaskLaws.{each-none, each-set, each-whole}
-use Rattle.node.specs.LineLaws.{line-lies}
+use Rattle.node.specs.LineLaws.{line-next}
 use Rattle.node.proofs.lines_of.Statement.{statement}
 use Rattle.node.proofs.lines_of.Tie as tie
 
@@ -30,24 +30,24 @@ loop-holds c = let h = layout _ (c .before .before .before .pre .0 .0) .few-line
 line-mask-requires : tie.Need-line-mask-requires Inv-loop μ-loop
 line-mask-requires c κs = let p = c .before .before .before .before .before .pre in let i = c .before .loop .inv in (p .0, (p .1 .0, record { number = c .before .loop .n; few = omega arith; begins = i .4 }))
 
-shared-slice-read-wide : tie.Need-shared-slice-read-wide Inv-loop μ-loop
-shared-slice-read-wide c = let l = line-lies _ (c .before .before .before .before .before .before .before .pre .0 .0) _ _ _ (let p = c .before .before .before .before .before .before .before .pre .1 .1 in omega arith) (c .before .before .before .loop .inv .4) refl in omega arith
+left-count-requires : tie.Need-left-count-requires Inv-loop μ-loop
+left-count-requires c κs = let p = c .before .before .before .before .before .before .pre in let i = c .before .before .loop .inv in (p .0 .0, record { number = c .before .before .loop .n; few = omega arith; begins = i .4 })
 
 add-at : tie.Need-add-at Inv-loop μ-loop
-add-at c = let l = line-lies _ (c .before .before .before .before .before .before .before .before .pre .0 .0) _ _ _ (let p = c .before .before .before .before .before .before .before .before .pre .1 .1 in omega arith) (c .before .before .before .before .loop .inv .4) (c .wide .ensures) in omega arith
+add-at c = let p = c .before .before .before .before .before .before .before .pre in omega (arith, line-next _ (p .0 .0) _ _ _ (let q = p .1 .1 in omega arith) (c .before .before .before .loop .inv .4) (c .left-count .ensures))
 
 add-at-2 : tie.Need-add-at-2 Inv-loop μ-loop
-add-at-2 c = let l = line-lies _ (c .before .before .before .before .before .before .before .before .pre .0 .0) _ _ _ (let p = c .before .before .before .before .before .before .before .before .pre .1 .1 in omega arith) (c .before .before .before .before .loop .inv .4) (c .wide .ensures) in omega arith
+add-at-2 c = let p = c .before .before .before .before .before .before .before .pre in omega (arith, line-next _ (p .0 .0) _ _ _ (let q = p .1 .1 in omega arith) (c .before .before .before .loop .inv .4) (c .left-count .ensures))
 
 loop-again : tie.Need-loop-again Inv-loop μ-loop
 loop-again c =
-    let i = c .before .before .before .before .loop .inv in (
+    let p = c .before .before .before .before .before .before .before .pre in let q = p .1 .1 in let i = c .before .before .before .loop .inv in (
       omega arith,
       i .1,
       simp length-set (i .2),
       simp length-set (i .3),
-      start-next _ _ _ _ (i .4) (c .wide .ensures),
-      each-set (i .5) (omega arith) (c .before .before .line-mask .ensures _ (let p = c .before .before .before .before .before .before .before .before .pre .1 .1 in omega arith) (i .4)),
+      line-next _ (p .0 .0) _ _ _ (omega arith) (i .4) (c .left-count .ensures) .0,
+      each-set (i .5) (omega arith) (c .before .line-mask .ensures _ (omega arith) (i .4)),
       each-set (i .6) (omega arith) (i .4),
     )
 
@@ -57,5 +57,5 @@ returns c = let i = c .before .loop .inv in (each-whole (i .5) (i .0) (c .loop-t
 pub lines-of-spec : {M : Type 1} → statement M
 lines-of-spec =
     tie.close
-    (tie.spec Inv-loop μ-loop line-start-requires loop-holds line-mask-requires (λ c. search needs) (λ c. search needs) (λ c. search needs)
-    (λ c. search needs) shared-slice-read-wide (λ c κs. search needs) add-at add-at-2 (λ c. search needs) (λ c. search needs) loop-again returns)
+    (tie.spec Inv-loop μ-loop line-start-requires loop-holds line-mask-requires (λ c. search needs) (λ c. search needs) (λ c. search needs) (λ c. search needs)
+    left-count-requires add-at add-at-2 (λ c. search needs) (λ c. search needs) loop-again returns)

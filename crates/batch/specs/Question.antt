@@ -1,15 +1,18 @@
 -- The questions of a stream, and what each is answered.
 --
+--   most             == how long a table and an output may be
+--   lineRoom         == how long the lines that answer may be
+--   headLength, numberBytes, lengthBytes == how many bytes stand before a table, and of them those of a number and of a length
 --   questionOf s     == the question that the nine bytes s begin
 --   isQuestion q     == there is such a kind, and the table is not too long
 --   readReply s, lineReply s n, solveReply s b out == the answers of the three calls as lines
 --   reply q s        == the answer to the question q about the bytes s
 use mathlib.Core.Bool.{Bool, true, false, _&&_}
 use mathlib.Core.List.{List}
-use Prim.Native.Nat.{ℕ, _+_, _*_, min}
+use Prim.Native.Nat.{ℕ, min}
 use lib.Dec.{eqb, leb}
-use lib.ListN.{replicate}
-use Rattle.table.specs.Reading.{byteAt, reading}
+use lib.ListN.{getD, replicate}
+use Rattle.table.specs.Reading.{reading}
 use Rattle.output.specs.Written.{numberAt}
 use Rattle.text.specs.Batch.{readText, lineText, solveText}
 use Rattle.makrothel.specs.declared.ReadAnswer.{ReadAnswer}
@@ -17,16 +20,30 @@ use Rattle.makrothel.specs.Answer.{readAnswer, linePart}
 use Rattle.makrothel.specs.Solve.{Answered, answer}
 use Rattle.batch.specs.declared.Question.{Question}
 
-abbrev pub twoAt : List ℕ → ℕ → ℕ
-twoAt s at = byteAt s at + 256 * byteAt s (at + 1)
+-- how long a table and an output may be
+abbrev pub most : ℕ
+most = 1024
 
--- one byte kind, four bytes a number, two bytes the output's length (larger than 1,024 is taken as 1,024), two bytes the table's length
+-- a line of text
+abbrev pub lineRoom : ℕ
+lineRoom = 4096
+
+abbrev pub headLength : ℕ
+headLength = 9
+
+abbrev pub numberBytes : ℕ
+numberBytes = 4
+
+abbrev pub lengthBytes : ℕ
+lengthBytes = 2
+
+-- one byte kind, then a number, the output's length (a larger one is taken as the most) and the table's length
 unfoldable pub questionOf : List ℕ → Question
-questionOf s = record { kind = byteAt s 0; number = numberAt s 1; room = min (twoAt s 5) 1024; length = twoAt s 7 }
+questionOf s = record { kind = getD s 0 0; number = numberAt numberBytes s 1; room = min (numberAt lengthBytes s 5) most; length = numberAt lengthBytes s 7 }
 
--- 1 read, 2 line, 3 solve; a table has at most 1,024 bytes
+-- 1 read, 2 line, 3 solve
 unfoldable pub isQuestion : Question → Bool
-isQuestion q = leb 1 (q .kind) && (leb (q .kind) 3 && leb (q .length) 1024)
+isQuestion q = leb 1 (q .kind) && (leb (q .kind) 3 && leb (q .length) most)
 
 -- `number place c r v e m`
 unfoldable pub readReplyOf : ReadAnswer → List ℕ

@@ -1,29 +1,30 @@
 // Answers a stream of questions, a line of text for each. A question is a kind (1 read, 2 line, 3 solve), a number in four bytes, the
 // length of the output in two, the length of the table in two, little-endian, and the table.
 ghost use mathlib.Core.Path.{_≡_};
-ghost use Prim.Native.Nat.{_+_, _*_, _≤_, _<_, min};
+ghost use Prim.Native.Nat.{_≤_, min};
 ghost use lib.ListN.{length, take, replicate};
 ghost use Rattle.io.specs.Counts.{Counts};
-ghost use Rattle.table.specs.Reading.{byteAt};
-ghost use Rattle.batch.specs.Question.{questionOf, isQuestion, readReply, lineReply, solveReply, reply};
+ghost use Rattle.batch.specs.Question.{most, headLength, lineRoom, questionOf, isQuestion, readReply, lineReply, solveReply, reply};
+use bounds::Count;
 use libc::STDIN_FILENO;
 use libc::STDOUT_FILENO;
 
 // How long a table and an output may be.
 const MOST: usize = 1024;
 
+// The bytes before a table, and of them those of a number and of a length.
+const HEAD: usize = 9;
+
+const NUMBER: usize = 4;
+
+const LENGTH: usize = 2;
+
 // A question, but for its table: `number` is the number of a line, or a budget, and `room` the length of the output.
 pub struct Question {
     pub kind: u8,
-    pub number: u32,
+    pub number: Count,
     pub room: usize,
     pub length: usize,
-}
-
-fn wide(x: u8) -> usize
-    ensures { λ r. ⌜ (r ≡ x) × (r < 256) ⌝ }
-{
-    x as usize
 }
 
 fn least(a: usize, b: usize) -> usize
@@ -32,37 +33,30 @@ fn least(a: usize, b: usize) -> usize
     if a < b { a } else { b }
 }
 
-fn two_at(bytes: &[u8], at: usize) -> usize
-    requires { ⌜ at + 2 ≤ length (now bytes) ⌝ }
-    ensures { λ r. ⌜ r ≡ byteAt (now (bytes .entry)) at + 256 * byteAt (now (bytes .entry)) (at + 1) ⌝ }
-{
-    wide(bytes[at]) + 256 * wide(bytes[at + 1])
-}
-
 // Room for a table. The promise gives only the length, which lending it as a slice needs.
 fn zeros() -> [u8; MOST]
-    ensures { λ r. ⌜ 1024 ≡ length r ⌝ }
+    ensures { λ r. ⌜ most ≡ length r ⌝ }
 {
     [0; MOST]
 }
 
 // An output before the call.
 fn filled() -> [u8; MOST]
-    ensures { λ r. ⌜ r ≡ replicate 1024 0xAA ⌝ }
+    ensures { λ r. ⌜ r ≡ replicate most 0xAA ⌝ }
 {
     [0xAA; MOST]
 }
 
 // What the nine bytes before a table say.
 fn question_of(head: &[u8]) -> Question
-    requires { ⌜ 9 ≤ length (now head) ⌝ }
+    requires { ⌜ headLength ≤ length (now head) ⌝ }
     ensures { λ r. ⌜ r ≡ questionOf (now (head .entry)) ⌝ }
 {
     Question {
         kind: head[0],
-        number: output::number_at(head, 1),
-        room: least(two_at(head, 5), MOST),
-        length: two_at(head, 7),
+        number: output::number_at(head, 1, NUMBER) as Count,
+        room: least(output::number_at(head, 5, LENGTH) as usize, MOST),
+        length: output::number_at(head, 7, LENGTH) as usize,
     }
 }
 
@@ -74,7 +68,7 @@ fn is_question(q: Question) -> bool
 }
 
 fn read_reply(table: &[u8], line: &mut [u8]) -> usize
-    requires { ⌜ 4096 ≤ length (now line) ⌝ }
+    requires { ⌜ lineRoom ≤ length (now line) ⌝ }
     ensures { λ r. ⌜ Counts r (now (line .exit)) ⌝ }
     ensures { λ r. ⌜ take r (now (line .exit)) ≡ readReply (now (table .entry)) ⌝ }
 {
@@ -92,15 +86,15 @@ fn read_reply(table: &[u8], line: &mut [u8]) -> usize
 }
 
 fn line_reply(table: &[u8], n: u32, line: &mut [u8]) -> usize
-    requires { ⌜ (length (now table) ≤ 1024) × (4096 ≤ length (now line)) ⌝ }
+    requires { ⌜ (length (now table) ≤ most) × (lineRoom ≤ length (now line)) ⌝ }
     ensures { λ r. ⌜ Counts r (now (line .exit)) ⌝ }
     ensures { λ r. ⌜ take r (now (line .exit)) ≡ lineReply (now (table .entry)) n ⌝ }
 {
     text::hex_line(makrothel::line(table, n), line)
 }
 
-fn solve_reply(table: &[u8], budget: u32, output: &mut [u8], line: &mut [u8]) -> usize
-    requires { ⌜ (length (now output) ≤ 1024) × (4096 ≤ length (now line)) ⌝ }
+fn solve_reply(table: &[u8], budget: Count, output: &mut [u8], line: &mut [u8]) -> usize
+    requires { ⌜ (length (now output) ≤ most) × (lineRoom ≤ length (now line)) ⌝ }
     ensures { λ r. ⌜ Counts r (now (line .exit)) ⌝ }
     ensures { λ r. ⌜ take r (now (line .exit)) ≡ solveReply (now (table .entry)) budget (now (output .entry)) ⌝ }
 {
@@ -110,7 +104,7 @@ fn solve_reply(table: &[u8], budget: u32, output: &mut [u8], line: &mut [u8]) ->
 
 // The answer to a question, as a line.
 fn reply_to(q: Question, table: &[u8], line: &mut [u8]) -> usize
-    requires { ⌜ (q .room ≤ 1024) × (length (now table) ≤ 1024) × (4096 ≤ length (now line)) ⌝ }
+    requires { ⌜ (q .room ≤ most) × (length (now table) ≤ most) × (lineRoom ≤ length (now line)) ⌝ }
     ensures { λ r. ⌜ Counts r (now (line .exit)) ⌝ }
     ensures { λ r. ⌜ take r (now (line .exit)) ≡ reply q (now (table .entry)) ⌝ }
 {
@@ -139,12 +133,12 @@ fn is_read(table: &mut [u8], size: usize) -> bool
 
 // Reads a question and answers it. Says whether to go on.
 fn answer_one() -> bool {
-    let mut head = [0u8; 9];
+    let mut head = [0u8; HEAD];
     let got = io::read_full(STDIN_FILENO, &mut head);
     if got == 0 {
         return false;
     }
-    if got < 9 {
+    if got < HEAD {
         return cut();
     }
     let q = question_of(&head);

@@ -1,16 +1,30 @@
 -- What the listing program writes.
 --
+--   mostRead       == how many bytes are read
+--   listingBudget  == how many nodes are allowed
+--   listingOutput  == the output before the call
 --   answerText s a == the solver's answer a to the bytes s as text
---   reportText s   == the answer to the bytes s with budget 1,000,000 as text
+--   reportText s   == the answer to the bytes s as text
 use mathlib.Core.List.{List}
-use Prim.Native.Nat.{ℕ}
+use Prim.Native.Nat.{ℕ, _*_}
 use lib.ListN.{replicate}
+use Rattle.bounds.specs.Bounds.{maxVariables, setBytes}
 use Rattle.text.specs.Listing.{listingText}
 use Rattle.makrothel.specs.Solve.{Answered, answer}
+
+-- "at most 699 bytes are read": one more than the longest readable table has
+abbrev pub mostRead : ℕ
+mostRead = 699
+
+-- "solves it with budget 1,000,000"
+abbrev pub listingBudget : ℕ
+listingBudget = 1000000
+
+abbrev pub listingOutput : List ℕ
+listingOutput = replicate (setBytes * maxVariables) 0
 
 unfoldable pub answerText : List ℕ → Answered → List ℕ
 answerText s a = listingText s (a .number) (a .count) (a .place) (a .output)
 
--- "solves it with budget 1,000,000"; the output has room for 12 sets
 unfoldable pub reportText : List ℕ → List ℕ
-reportText s = answerText s (answer s 1000000 (replicate 48 0))
+reportText s = answerText s (answer s listingBudget listingOutput)

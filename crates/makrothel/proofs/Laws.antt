@@ -20,6 +20,7 @@ use lib.Dec.{T, ltb}
 use lib.ListN.{length, take, drop}
 use borrow.Author.Tests.{lt-ltb, le-ltb}
 use denote.Ref.{RefT, now}
+use Rattle.bounds.specs.Bounds.{setBytes}
 use Rattle.el.specs.Table.{roleOrder}
 use Rattle.table.specs.declared.Verdict.the-variants.{Refused, Readable}
 use Rattle.el.specs.Walk.{outcome}
@@ -148,10 +149,10 @@ module _ (s : List ℕ) (b : ℕ) (out : List ℕ) where
   variables : verdictOf (reading s) ≡ Readable → tableOf s .variables ≡ headerOf s .v
   variables q = layout s (readable-is s q) .variables
 
-  pub solve-short : (v : ℕ) → v ≡ headerOf s .v → verdictOf (reading s) ≡ Readable → length out < 4 * v → refusedAs 7 (4 * v) out ≡ answer s b out
+  pub solve-short : (v : ℕ) → v ≡ headerOf s .v → verdictOf (reading s) ≡ Readable → length out < setBytes * v → refusedAs 7 (setBytes * v) out ≡ answer s b out
   solve-short v e q l =
       let h : tableOf s .variables ≡ v = variables q ∙ sym e in
-      sym (answer-short s b out (tableOf s) (the-table q) (omega arith) ∙ ap (λ (k : ℕ). refusedAs 7 (4 * k) out) h)
+      sym (answer-short s b out (tableOf s) (the-table q) (omega arith) ∙ ap (λ (k : ℕ). refusedAs 7 (setBytes * k) out) h)
 
-  pub solve-walked : (v : ℕ) → v ≡ headerOf s .v → verdictOf (reading s) ≡ Readable → 4 * v ≤ length out → outcomeAs (outcome (roleOrder (tableOf s)) (tableOf s) b) out ≡ answer s b out
+  pub solve-walked : (v : ℕ) → v ≡ headerOf s .v → verdictOf (reading s) ≡ Readable → setBytes * v ≤ length out → outcomeAs (outcome (roleOrder (tableOf s)) (tableOf s) b) out ≡ answer s b out
   solve-walked v e q l = let h : tableOf s .variables ≡ v = variables q ∙ sym e in sym (answer-outcome s (tableOf s) (the-table q) b out (omega arith))

@@ -12,6 +12,7 @@ use Prim.Native.Nat.{ℕ, _*_, _≤_}
 use native.Mathlib.Omega.{arith}
 use lib.Dec.{T}
 use lib.ListN.{length}
+use Rattle.bounds.specs.Bounds.{setBytes}
 use Rattle.el.specs.Test.{anyBelow, allBelow, anyOf, everyOf, bit}
 use Rattle.el.specs.Description.{sameRole}
 use Rattle.el.specs.Table.{Table, rowAt, atoms, declared, roleOrder}
@@ -22,7 +23,7 @@ use Rattle.el.specs.OutcomeLaws.{more-budget}
 use Rattle.table.specs.Code.{kindOf, within, fillerOfKind, fillerOf, entryOfKind, entryOf}
 use Rattle.table.specs.Reading.{marked, versionOne, readHeader, readMany, readRow, readEntry, readLine, readBody, readable, headerOf, reading, tableOf}
 use Rattle.table.specs.Bytes.{IsTable}
-use Rattle.output.specs.Written.{setBytes, written}
+use Rattle.output.specs.Written.{littleEndian, assignmentBytes, written}
 use Rattle.makrothel.specs.Numbers.{N}
 use Rattle.makrothel.specs.Solve.{outcomeAs, answer}
 use Rattle.makrothel.specs.Demand1.{is-table}
@@ -124,7 +125,7 @@ cases = p1 ∷ p2 ∷ p3 ∷ p4 ∷ p5 ∷ p6 ∷ p7 ∷ p8 ∷ p9 ∷ p10 ∷ p
 
 unfoldable pub Answers : Case → Type 0
 Answers k =
-    (b : ℕ) → Under (k .budgets) b → (out : List ℕ) → 4 * k .variables ≤ length out
+    (b : ℕ) → Under (k .budgets) b → (out : List ℕ) → setBytes * k .variables ≤ length out
     → answer (k .bytes) b out ≡ record { number = k .number; count = k .count; place = 0; output = written (k .sets) out }
 
 abbrev pub Every : (Case → Type 0) → List Case → Type 0
@@ -150,7 +151,7 @@ answers : (k : Case) → Computes k → Answers k
 unfolding Answers
 answers k c b u out room =
     let is : IsTable (k .bytes) (tableOf (k .bytes)) = is-table (k .bytes) (headerOf (k .bytes)) (tableOf (k .bytes)) (c .1) in
-    answer-outcome (k .bytes) (tableOf (k .bytes)) is b out (subst (λ (v : ℕ). 4 * v ≤ length out) (sym (c .2)) room)
+    answer-outcome (k .bytes) (tableOf (k .bytes)) is b out (subst (λ (v : ℕ). setBytes * v ≤ length out) (sym (c .2)) room)
     ∙ ap (λ (o : Outcome). outcomeAs o out) (comes (tableOf (k .bytes)) (known (k .bytes) (tableOf (k .bytes)) is) (k .budgets) b (c .0) u (c .3))
     ∙ c .4 out
 
@@ -159,7 +160,7 @@ every [] c = tt
 every (k ∷ ks) c = (answers k (c .0), every ks (c .1))
 
 computed : Every Computes cases
-unfolding written setBytes outcome count examined firstOf upToFirst nodes treeOf inTurn ends full dead fails ready settled lineVariables chosen induced inducedTo setUnder conjoin atomUnder acyclic reaches path depends setOf holds rowAt atoms anyBelow allBelow anyOf everyOf bit sameRole tableOf reading readBody readLine readEntry readRow readMany readHeader versionOne marked entryOf entryOfKind fillerOf fillerOfKind within kindOf
+unfolding written assignmentBytes littleEndian outcome count examined firstOf upToFirst nodes treeOf inTurn ends full dead fails ready settled lineVariables chosen induced inducedTo setUnder conjoin atomUnder acyclic reaches path depends setOf holds rowAt atoms anyBelow allBelow anyOf everyOf bit sameRole tableOf reading readBody readLine readEntry readRow readMany readHeader versionOne marked entryOf entryOfKind fillerOf fillerOfKind within kindOf
 computed = ((solved 1 [], refl, refl, (refl, refl), λ out. refl), ((nothing 1, refl, refl, (refl, refl), λ out. refl), ((solved 3 (1 ∷ []), refl, refl, (refl, refl), λ out. refl), ((solved 2 (0 ∷ []), refl, refl, (refl, refl), λ out. refl), ((nothing 3, refl, refl, (refl, refl), λ out. refl), ((solved 3 (1 ∷ []), refl, refl, (refl, refl), λ out. refl), ((solved 5 (3 ∷ []), refl, refl, (refl, refl), λ out. refl), ((solved 14 (2 ∷ 1 ∷ []), refl, refl, (refl, refl), λ out. refl), ((budget 13, refl, refl, refl, λ out. refl), ((nothing 1, refl, refl, (refl, refl), λ out. refl), ((solved 1 [], refl, refl, (refl, refl), λ out. refl), ((nothing 33, refl, refl, (refl, refl), λ out. refl), tt))))))))))))
 
 -- P1 TO P12

@@ -21,6 +21,7 @@ use lib.Dec.{T}
 use lib.ListN.{length, drop}
 use lib.Seq.{drop-at}
 use borrow.Author.Tests.{lt-ltb}
+use Rattle.bounds.specs.Bounds.{setBytes}
 use Rattle.el.specs.Table.{Table}
 use Rattle.el.specs.Assignment.{Assignment, IsAssignment}
 use Rattle.table.specs.Reading.{Header, Reading, refusal, readable, reading, tableOf, isReadable}
@@ -28,8 +29,8 @@ use Rattle.table.specs.Bytes.{countsOf, IsTable}
 use Rattle.table.specs.BytesLaws.{table-read, readable-exactly}
 use Rattle.table.specs.Refusal.{RefusedAt}
 use Rattle.table.specs.RefusalLaws.{refused-number, refused-means, means-refusal}
-use Rattle.output.specs.Written.{setBytes, written}
-use Rattle.output.proofs.Laws.{setBytes-length, written-length}
+use Rattle.output.specs.Written.{assignmentBytes, written}
+use Rattle.output.specs.WrittenLaws.{bytes-length, written-length}
 use Rattle.makrothel.specs.declared.ReadAnswer.{ReadAnswer}
 use Rattle.makrothel.specs.Answer.{readAnswer}
 use Rattle.makrothel.specs.Numbers.{FirstSolving, NoneSolves, N, NumberAt, refused, too-short, is-solved, is-none, is-budget}
@@ -47,11 +48,11 @@ number-bound (is-budget t i w l) = omega arith
 pub is-table : (s : List ℕ) (h : Header) (t : Table) → reading s ≡ readable h t → IsTable s t
 is-table s h t e = readable-exactly s h t .0 e .0
 
-written-behind : (v : ℕ) (a out : List ℕ) → length a ≡ v → 4 * v ≤ length out → (drop (4 * v) (written a out) ≡ drop (4 * v) out) × (length (written a out) ≡ length out)
-written-behind v a out e h = (subst (λ (k : ℕ). drop (4 * k) (written a out) ≡ drop (4 * k) out) e after, written-length a out (omega arith))
+written-behind : (v : ℕ) (a out : List ℕ) → length a ≡ v → setBytes * v ≤ length out → (drop (setBytes * v) (written a out) ≡ drop (setBytes * v) out) × (length (written a out) ≡ length out)
+written-behind v a out e h = (subst (λ (k : ℕ). drop (setBytes * k) (written a out) ≡ drop (setBytes * k) out) e after, written-length a out (omega arith))
   where
-    after : drop (4 * length a) (written a out) ≡ drop (4 * length a) out
-    after = unfold written in drop-at (setBytes a) (drop (4 * length a) out) (4 * length a) (setBytes-length a)
+    after : drop (setBytes * length a) (written a out) ≡ drop (setBytes * length a) out
+    after = unfold written in drop-at (assignmentBytes a) (drop (setBytes * length a) out) (setBytes * length a) (bytes-length a)
 
 first-length : (t : Table) (a : Assignment) → FirstSolving t a → length a ≡ t .variables
 unfolding FirstSolving IsAssignment
@@ -63,21 +64,21 @@ module _ (s : List ℕ) (b : ℕ) (out : List ℕ) where
   unfolding answer
   answer-refused n p r = ap (λ (x : Reading). readingAs x b out) (means-refusal s n p r)
 
-  pub answer-short : (t : Table) → IsTable s t → length out < 4 * t .variables → answer s b out ≡ refusedAs 7 (4 * t .variables) out
+  pub answer-short : (t : Table) → IsTable s t → length out < setBytes * t .variables → answer s b out ≡ refusedAs 7 (setBytes * t .variables) out
   unfolding answer tableAs
-  answer-short t is l = ap (λ (r : Reading). readingAs r b out) (table-read s t is) ∙ rw (lt-ltb (length out) (4 * t .variables) l, tableAs)
+  answer-short t is l = ap (λ (r : Reading). readingAs r b out) (table-read s t is) ∙ rw (lt-ltb (length out) (setBytes * t .variables) l, tableAs)
 
   -- what an answer is, with what it leaves of the output
   record Row (r : Answered) : Type 0 where
     pub row : NumberAt s b (length out) (r .number) (r .count) (r .place)
     pub kept : (r .number ≡ 0 → ⊥) → r .output ≡ out
-    pub behind : r .number ≡ 0 → (drop (4 * tableOf s .variables) (r .output) ≡ drop (4 * tableOf s .variables) out) × (length (r .output) ≡ length out)
+    pub behind : r .number ≡ 0 → (drop (setBytes * tableOf s .variables) (r .output) ≡ drop (setBytes * tableOf s .variables) out) × (length (r .output) ≡ length out)
 
   stays : (n k p : ℕ) → (n ≡ 0 → ⊥) → NumberAt s b (length out) n k p → Row (record { number = n; count = k; place = p; output = out })
   stays n k p f r = record { row = r; kept = λ _. refl; behind = λ z. absurd (f z) }
 
   module _ (t : Table) (is : IsTable s t) where
-    walked : 4 * t .variables ≤ length out → Row (answer s b out)
+    walked : setBytes * t .variables ≤ length out → Row (answer s b out)
     walked room = go (decLe (N t) b)
       where
         found : N t ≤ b → (a : Assignment) → FirstSolving t a → Row (record { number = 0; count = N t; place = 0; output = written a out })
@@ -85,7 +86,7 @@ module _ (s : List ℕ) (b : ℕ) (out : List ℕ) where
             record {
               row = is-solved t is room l a f;
               kept = λ g. absurd (g refl);
-              behind = λ _. subst (λ (u : Table). (drop (4 * u .variables) (written a out) ≡ drop (4 * u .variables) out) × (length (written a out) ≡ length out)) (table-is s t is)
+              behind = λ _. subst (λ (u : Table). (drop (setBytes * u .variables) (written a out) ≡ drop (setBytes * u .variables) out) × (length (written a out) ≡ length out)) (table-is s t is)
                   (written-behind (t .variables) a out (first-length t a f) room);
             }
 
@@ -96,9 +97,9 @@ module _ (s : List ℕ) (b : ℕ) (out : List ℕ) where
           | inr w ↦ subst Row (sym (w .1)) (stays 8 (N t) 0 (λ z. omega arith) (is-none t is room l (w .0)))
         ]
 
-    read : Dec (4 * t .variables ≤ length out) → Row (answer s b out)
+    read : Dec (setBytes * t .variables ≤ length out) → Row (answer s b out)
     read (yes room) = walked room
-    read (no l) = subst Row (sym (answer-short t is (omega arith))) (stays 7 0 (4 * t .variables) (λ z. omega arith) (too-short t is (omega arith)))
+    read (no l) = subst Row (sym (answer-short t is (omega arith))) (stays 7 0 (setBytes * t .variables) (λ z. omega arith) (too-short t is (omega arith)))
 
   answer-row : Row (answer s b out)
   answer-row = go (reading s) refl
@@ -107,7 +108,7 @@ module _ (s : List ℕ) (b : ℕ) (out : List ℕ) where
       go (refusal n p) e =
           let r = refused-means s n p e in
           subst Row (sym (answer-refused n p r)) (stays n 0 p (λ z. let q = refused-number r in omega arith) (refused r))
-      go (readable h t) e = read t (is-table s h t e) (decLe (4 * t .variables) (length out))
+      go (readable h t) e = read t (is-table s h t e) (decLe (setBytes * t .variables) (length out))
 
   -- EVERY INPUT GETS A ROW OF THE TABLE OF NUMBERS
   pub demand-1-row : NumberAt s b (length out) (answer s b out .number) (answer s b out .count) (answer s b out .place)
@@ -143,10 +144,10 @@ module _ (s : List ℕ) (b : ℕ) (out : List ℕ) where
       go (is-budget t i w l) e f = absurd (let z : ⊥ = omega arith in z)
 
   -- 7
-  pub demand-1-short : (answer s b out .number ≡ 7) ↔ ((t : Table) × IsTable s t × (length out < 4 * t .variables))
-  demand-1-short = ((λ e. go demand-1-row e), λ w. demand-1-only 7 0 (4 * w .0 .variables) (too-short (w .0) (w .1) (w .2)) .0)
+  pub demand-1-short : (answer s b out .number ≡ 7) ↔ ((t : Table) × IsTable s t × (length out < setBytes * t .variables))
+  demand-1-short = ((λ e. go demand-1-row e), λ w. demand-1-only 7 0 (setBytes * w .0 .variables) (too-short (w .0) (w .1) (w .2)) .0)
     where
-      go : {m k q : ℕ} → NumberAt s b (length out) m k q → m ≡ 7 → (t : Table) × IsTable s t × (length out < 4 * t .variables)
+      go : {m k q : ℕ} → NumberAt s b (length out) m k q → m ≡ 7 → (t : Table) × IsTable s t × (length out < setBytes * t .variables)
       go (refused r) e = let z = refused-number r in absurd (let y : ⊥ = omega arith in y)
       go (too-short t i w) e = (t, i, w)
       go (is-solved t i w l a g) e = absurd (let z : ⊥ = omega arith in z)
@@ -159,7 +160,7 @@ module _ (s : List ℕ) (b : ℕ) (out : List ℕ) where
 
   -- SOLVED CHANGES AT MOST THE FIRST 4v BYTES
   pub demand-1-written : answer s b out .number ≡ 0
-      → (drop (4 * tableOf s .variables) (answer s b out .output) ≡ drop (4 * tableOf s .variables) out) × (length (answer s b out .output) ≡ length out)
+      → (drop (setBytes * tableOf s .variables) (answer s b out .output) ≡ drop (setBytes * tableOf s .variables) out) × (length (answer s b out .output) ≡ length out)
   demand-1-written = answer-row .behind
 
 -- THE READER'S ANSWER: "0 to 6 with the same places, and the five counts (zeros when refused)"

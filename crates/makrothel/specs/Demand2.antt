@@ -19,6 +19,7 @@ use native.Mathlib.Decide.{decLe}
 use lib.Dec.{T}
 use lib.ListN.{length}
 use borrow.Author.Tests.{le-ltb}
+use Rattle.bounds.specs.Bounds.{setBytes}
 use Rattle.el.specs.Table.{Table, declared, roleOrder}
 use Rattle.el.specs.Assignment.{Assignment, IsAssignment, Solves, solves, Before}
 use Rattle.el.specs.Walk.{Outcome, solved, nothing, budget, outcome}
@@ -59,10 +60,10 @@ module _ (s : List ℕ) (t : Table) (is : IsTable s t) where
       subst (λ (u : Table). T (declared u)) (sym table-is)
       (layout s (subst (λ (r : Reading). T (isReadable r)) (sym (table-read s t is)) tt) .all-declared)
 
-module _ (s : List ℕ) (t : Table) (is : IsTable s t) (b : ℕ) (out : List ℕ) (room : 4 * t .variables ≤ length out) where
+module _ (s : List ℕ) (t : Table) (is : IsTable s t) (b : ℕ) (out : List ℕ) (room : setBytes * t .variables ≤ length out) where
   pub answer-outcome : answer s b out ≡ outcomeAs (outcome (roleOrder t) t b) out
   unfolding answer tableAs
-  answer-outcome = ap (λ (r : Reading). readingAs r b out) (table-read s t is) ∙ rw (le-ltb (length out) (4 * t .variables) room, tableAs)
+  answer-outcome = ap (λ (r : Reading). readingAs r b out) (table-read s t is) ∙ rw (le-ltb (length out) (setBytes * t .variables) room, tableAs)
 
   -- BUDGET
   pub demand-2-budget : b < N t → answer s b out ≡ record { number = 9; count = b; place = 0; output = out }

@@ -17,6 +17,7 @@ use native.Mathlib.Decide.{decLe}
 use lib.Dec.{T}
 use lib.ListN.{length, take, drop}
 use lib.Seq.{take-at}
+use Rattle.bounds.specs.Bounds.{setBytes}
 use Rattle.el.specs.Description.{sameRole}
 use Rattle.el.specs.OrderLaws.{roleOrder-refl, roleOrder-trans}
 use Rattle.el.specs.Table.{Table, declared, roleOrder}
@@ -29,8 +30,8 @@ use Rattle.el.specs.GrowthLaws.{growth-back, growth-same}
 use Rattle.table.specs.Reading.{Reading, refusal, readable, reading, tableOf}
 use Rattle.table.specs.Bytes.{IsTable}
 use Rattle.table.specs.RefusalLaws.{refused-number, refused-means}
-use Rattle.output.specs.Written.{setBytes, written}
-use Rattle.output.proofs.Laws.{setBytes-length}
+use Rattle.output.specs.Written.{assignmentBytes, written}
+use Rattle.output.specs.WrittenLaws.{bytes-length}
 use Rattle.makrothel.specs.Solve.{Answered, refusedAs, outcomeAs, answer}
 use Rattle.makrothel.specs.Grown.{Grown, SameLines}
 use Rattle.makrothel.specs.GrownLaws.{grown-grows, grown-lines}
@@ -44,7 +45,7 @@ use Rattle.makrothel.specs.Demand2.{table-is, known, answer-outcome, dem
 pub record Walked (s : List ℕ) (out : List ℕ) : Type 0 where
   pub table : Table
   pub is : IsTable s table
-  pub room : 4 * table .variables ≤ length out
+  pub room : setBytes * table .variables ≤ length out
 
 module _ (s : List ℕ) (b : ℕ) (out : List ℕ) where
   pub walked : (answer s b out .number ≡ 0) ⊎ (answer s b out .number ≡ 8) → Walked s out
@@ -55,16 +56,16 @@ module _ (s : List ℕ) (b : ℕ) (out : List ℕ) where
           let m : answer s b out .number ≡ n = ap (λ (r : Answered). r .number) e in
           elim w [ inl z ↦ f (sym m ∙ z) | inr z ↦ g (sym m ∙ z) ]
 
-      room-of : (t : Table) → IsTable s t → Dec (4 * t .variables ≤ length out) → Walked s out
+      room-of : (t : Table) → IsTable s t → Dec (setBytes * t .variables ≤ length out) → Walked s out
       room-of t i (yes r) = record { table = t; is = i; room = r }
-      room-of t i (no r) = absurd (neither 7 (4 * t .variables) (answer-short s b out t i (omega arith)) (λ z. omega arith) (λ z. omega arith))
+      room-of t i (no r) = absurd (neither 7 (setBytes * t .variables) (answer-short s b out t i (omega arith)) (λ z. omega arith) (λ z. omega arith))
 
       go : (r : Reading) → reading s ≡ r → Walked s out
       go (refusal n p) e =
           let r = refused-means s n p e in
           let q = refused-number r in
           absurd (neither n p (answer-refused s b out n p r) (λ z. omega arith) (λ z. omega arith))
-      go (readable h t) e = room-of t (is-table s h t e) (decLe (4 * t .variables) (length out))
+      go (readable h t) e = room-of t (is-table s h t e) (decLe (setBytes * t .variables) (length out))
 
 known-table : (s : List ℕ) (t : Table) → IsTable s t → T (declared (tableOf s))
 known-table s t i = subst (λ (u : Table). T (declared u)) (table-is s t i) (known s t i)
@@ -132,20 +133,20 @@ pub record SameAnswer (s : List ℕ) (q r : Answered) : Type 0 where
   pub number : q .number ≡ r .number
   pub count : q .count ≡ r .count
   pub place : q .place ≡ r .place
-  pub bytes : q .number ≡ 0 → take (4 * tableOf s .variables) (q .output) ≡ take (4 * tableOf s .variables) (r .output)
+  pub bytes : q .number ≡ 0 → take (setBytes * tableOf s .variables) (q .output) ≡ take (setBytes * tableOf s .variables) (r .output)
 
 module _ (s : List ℕ) (b c : ℕ) (out more : List ℕ) where
   same-outcome : (t : Table) → t ≡ tableOf s → (o : Outcome) → Sized t o → SameAnswer s (outcomeAs o out) (outcomeAs o more)
   same-outcome t e (solved n a) z =
-      record { number = refl; count = refl; place = refl; bytes = λ _. subst (λ (u : Table). take (4 * u .variables) (written a out) ≡ take (4 * u .variables) (written a more)) e (start out ∙ sym (start more)) }
+      record { number = refl; count = refl; place = refl; bytes = λ _. subst (λ (u : Table). take (setBytes * u .variables) (written a out) ≡ take (setBytes * u .variables) (written a more)) e (start out ∙ sym (start more)) }
     where
-      start : (x : List ℕ) → take (4 * t .variables) (written a x) ≡ setBytes a
-      start x = unfold written in take-at (setBytes a) (drop (4 * length a) x) (4 * t .variables) (setBytes-length a ∙ ap (λ (k : ℕ). 4 * k) z)
+      start : (x : List ℕ) → take (setBytes * t .variables) (written a x) ≡ assignmentBytes a
+      start x = unfold written in take-at (assignmentBytes a) (drop (setBytes * length a) x) (setBytes * t .variables) (bytes-length a ∙ ap (λ (k : ℕ). setBytes * k) z)
   same-outcome t e (nothing n) z = record { number = refl; count = refl; place = refl; bytes = λ q. absurd (let y : ⊥ = omega arith in y) }
   same-outcome t e (budget n) z = record { number = refl; count = refl; place = refl; bytes = λ q. absurd (let y : ⊥ = omega arith in y) }
 
   -- A LARGER BUDGET WITH ENOUGH ROOM GIVES THE SAME ANSWER, BYTES AND COUNT
-  pub demand-3-budget : (answer s b out .number ≡ 0) ⊎ (answer s b out .number ≡ 8) → b ≤ c → 4 * tableOf s .variables ≤ length more
+  pub demand-3-budget : (answer s b out .number ≡ 0) ⊎ (answer s b out .number ≡ 8) → b ≤ c → setBytes * tableOf s .variables ≤ length more
       → SameAnswer s (answer s b out) (answer s c more)
   demand-3-budget w l r =
       subst (λ (x : Answered). SameAnswer s x (answer s c more)) (sym first)
@@ -172,7 +173,7 @@ module _ (s : List ℕ) (b c : ℕ) (out more : List ℕ) where
 
       second : answer s c more ≡ outcomeAs (outcome (roleOrder t) t b) more
       second =
-          answer-outcome s t (k .is) c more (subst (λ (u : Table). 4 * u .variables ≤ length more) (sym here) r)
+          answer-outcome s t (k .is) c more (subst (λ (u : Table). setBytes * u .variables ≤ length more) (sym here) r)
           ∙ ap (λ (o : Outcome). outcomeAs o more) (more-budget (roleOrder t) t known-t b c (within w) l)
 
       sized : Sized t (outcome (roleOrder t) t b)

@@ -12,6 +12,7 @@ use Prim.Native.Nat.{ℕ, _*_, _≤_, _<_}
 use native.Mathlib.Omega.{arith}
 use lib.Dec.{T}
 use lib.ListN.{length, drop}
+use Rattle.bounds.specs.Bounds.{setBytes}
 use Rattle.el.specs.Test.{everyOf}
 use Rattle.el.specs.Table.{Table, roleOrder}
 use Rattle.el.specs.Meaning.{Substitution, makes}
@@ -21,7 +22,7 @@ use Rattle.table.specs.Reading.{marked, versionOne, readHeader, readMany, readR
 use Rattle.table.specs.Bytes.{IsTable}
 use Rattle.table.specs.Refusal.{RefusedAt, header-cut}
 use Rattle.table.specs.RefusalLaws.{refused-means}
-use Rattle.output.specs.Written.{setBytes, written}
+use Rattle.output.specs.Written.{littleEndian, assignmentBytes, written}
 use Rattle.makrothel.specs.declared.ReadAnswer.{ReadAnswer}
 use Rattle.makrothel.specs.Answer.{readAnswer}
 use Rattle.makrothel.specs.Numbers.{FirstSolving, NoneSolves, N, NumberAt, refused}
@@ -56,29 +57,29 @@ variables : (tableOf (p5 .bytes) .variables ≡ 1) × (tableOf (p8 .bytes) .vari
 unfolding tableOf reading readBody readLine readEntry readRow readMany readHeader versionOne marked entryOf entryOfKind fillerOf fillerOfKind within kindOf
 variables = (refl, refl, refl)
 
-room-p5 : 4 * tableOf (p5 .bytes) .variables ≤ length eight
+room-p5 : setBytes * tableOf (p5 .bytes) .variables ≤ length eight
 room-p5 = let v : tableOf (p5 .bytes) .variables ≡ 1 = variables .0 in omega arith
 
-room-p8 : 4 * tableOf (p8 .bytes) .variables ≤ length eight
+room-p8 : setBytes * tableOf (p8 .bytes) .variables ≤ length eight
 room-p8 = let v : tableOf (p8 .bytes) .variables ≡ 2 = variables .1 in omega arith
 
-room-p12 : 4 * tableOf (p12 .bytes) .variables ≤ length eight
+room-p12 : setBytes * tableOf (p12 .bytes) .variables ≤ length eight
 room-p12 = let v : tableOf (p12 .bytes) .variables ≡ 1 = variables .2 in omega arith
 
 pub p5-answer : answer (p5 .bytes) 3 eight ≡ record { number = 8; count = 3; place = 0; output = eight }
-unfolding Answers written setBytes
+unfolding Answers written assignmentBytes littleEndian
 p5-answer = cases-hold .1 .1 .1 .1 .0 3 (omega arith) eight (omega arith)
 
 pub p8-answer : answer (p8 .bytes) 14 eight ≡ record { number = 0; count = 14; place = 0; output = 2 ∷ 0 ∷ 0 ∷ 0 ∷ 1 ∷ 0 ∷ 0 ∷ 0 ∷ [] }
-unfolding Answers written setBytes
+unfolding Answers written assignmentBytes littleEndian
 p8-answer = cases-hold .1 .1 .1 .1 .1 .1 .1 .0 14 (omega arith) eight (omega arith)
 
 pub p9-answer : answer (p8 .bytes) 13 eight ≡ record { number = 9; count = 13; place = 0; output = eight }
-unfolding Answers written setBytes
+unfolding Answers written assignmentBytes littleEndian
 p9-answer = cases-hold .1 .1 .1 .1 .1 .1 .1 .1 .0 13 refl eight (omega arith)
 
 pub p12-answer : answer (p12 .bytes) 33 eight ≡ record { number = 8; count = 33; place = 0; output = eight }
-unfolding Answers written setBytes
+unfolding Answers written assignmentBytes littleEndian
 p12-answer = cases-hold .1 .1 .1 .1 .1 .1 .1 .1 .1 .1 .1 .0 33 (omega arith) eight (omega arith)
 
 p5-none : answer (p5 .bytes) 3 eight .number ≡ 8

@@ -6,6 +6,7 @@
 --   NumberAt s b room n k p == to the bytes s, the budget b and an output of `room` bytes belong the number n, the count k and the place p
 use mathlib.Core.List.{List}
 use Prim.Native.Nat.{ℕ, _*_, _≤_, _<_}
+use Rattle.bounds.specs.Bounds.{setBytes}
 use Rattle.el.specs.Table.{Table, roleOrder}
 use Rattle.el.specs.Assignment.{Assignment, IsAssignment, Solves, Before}
 use Rattle.el.specs.Walk.{count}
@@ -29,10 +30,10 @@ pub data NumberAt (s : List ℕ) (b room : ℕ) : ℕ → ℕ → ℕ → Type 0
   -- 1 to 6, count 0: what is wrong with the bytes
   refused : {n p : ℕ} → RefusedAt s n p → NumberAt s b room n 0 p
   -- 7 "output shorter than 4v bytes", 0, 4v
-  too-short : (t : Table) → IsTable s t → room < 4 * t .variables → NumberAt s b room 7 0 (4 * t .variables)
+  too-short : (t : Table) → IsTable s t → room < setBytes * t .variables → NumberAt s b room 7 0 (setBytes * t .variables)
   -- 0 "solved", N, 0
-  is-solved : (t : Table) → IsTable s t → 4 * t .variables ≤ room → N t ≤ b → (a : Assignment) → FirstSolving t a → NumberAt s b room 0 (N t) 0
+  is-solved : (t : Table) → IsTable s t → setBytes * t .variables ≤ room → N t ≤ b → (a : Assignment) → FirstSolving t a → NumberAt s b room 0 (N t) 0
   -- 8 "none", N, 0
-  is-none : (t : Table) → IsTable s t → 4 * t .variables ≤ room → N t ≤ b → NoneSolves t → NumberAt s b room 8 (N t) 0
+  is-none : (t : Table) → IsTable s t → setBytes * t .variables ≤ room → N t ≤ b → NoneSolves t → NumberAt s b room 8 (N t) 0
   -- 9 "budget", b, 0
-  is-budget : (t : Table) → IsTable s t → 4 * t .variables ≤ room → b < N t → NumberAt s b room 9 b 0
+  is-budget : (t : Table) → IsTable s t → setBytes * t .variables ≤ room → b < N t → NumberAt s b room 9 b 0

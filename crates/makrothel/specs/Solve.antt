@@ -10,6 +10,7 @@ use mathlib.Core.List.{List}
 use Prim.Native.Nat.{ℕ, _*_}
 use lib.Dec.{ltb}
 use lib.ListN.{length}
+use Rattle.bounds.specs.Bounds.{setBytes}
 use Rattle.el.specs.Table.{Table, roleOrder}
 use Rattle.el.specs.Walk.{Outcome, solved, nothing, budget, outcome}
 use Rattle.table.specs.Reading.{Reading, refusal, readable, reading}
@@ -39,8 +40,8 @@ outcomeAs (budget n) out = record { number = 9; count = n; place = 0; output = o
 -- "7 output shorter than 4v bytes, 0, 4v". "Then 6, then 7, then the walk."
 unfoldable pub tableAs : Table → ℕ → List ℕ → Answered
 tableAs t b out =
-    elim (ltb (length out) (4 * t .variables)) [
-      | true ↦ refusedAs 7 (4 * t .variables) out
+    elim (ltb (length out) (setBytes * t .variables)) [
+      | true ↦ refusedAs 7 (setBytes * t .variables) out
       | false ↦ outcomeAs (outcome (roleOrder t) t b) out
     ]
 

@@ -4,6 +4,7 @@ ghost use Rattle.table.specs.Reading.{reading};
 ghost use Rattle.makrothel.specs.Answer.{readAnswer, linePart};
 ghost use Rattle.makrothel.specs.Solve.{answer};
 ghost use Rattle.makrothel.specs.C.{placeAndCounts, lineFound, lineSpan, spanned, countAndPlace};
+use bounds::Count;
 
 // `read`: returns the number; the place and the five counts c, r, v, e, m are in the lent array.
 #[no_mangle]
@@ -45,7 +46,7 @@ pub extern "C" fn makrothel_line(table: &[u8], n: u32, span: &mut [u64; 2]) -> u
 #[no_mangle]
 pub extern "C" fn makrothel_solve(
     table: &[u8],
-    budget: u32,
+    budget: Count,
     out: &mut [u8],
     numbers: &mut [u64; 2],
 ) -> u32

@@ -4,10 +4,12 @@ mod c;
 ghost use mathlib.Core.Path.{_≡_};
 ghost use Prim.Native.Nat.{_*_, _≤_};
 ghost use lib.ListN.{length};
+ghost use Rattle.bounds.specs.Bounds.{setBytes, maxVariables};
 ghost use Rattle.table.specs.Reading.{reading};
 ghost use Rattle.walk.specs.Step.{outcomeOf};
 ghost use Rattle.makrothel.specs.Answer.{readAnswer, linePart, lineBegin, BeginsIn};
 ghost use Rattle.makrothel.specs.Solve.{outcomeAs, answered, answer};
+use bounds::Count;
 use table::Verdict;
 use walk::End;
 use walk::Walked;
@@ -77,13 +79,13 @@ pub fn line<'a>(table: &'a [u8], n: u32) -> &'a [u8]
 // What the solver answers: number, count and place.
 pub struct SolveAnswer {
     pub number: u32,
-    pub count: u32,
+    pub count: Count,
     pub place: usize,
 }
 
 // The answer to the end of a walk; only a walk that found an assignment writes.
 fn finish(walked: Walked, out: &mut [u8]) -> SolveAnswer
-    requires { ⌜ (walked .sets .chosen ≤ 12) × (4 * walked .sets .chosen ≤ length (now out)) ⌝ }
+    requires { ⌜ (walked .sets .chosen ≤ maxVariables) × (setBytes * walked .sets .chosen ≤ length (now out)) ⌝ }
     ensures { λ r. ⌜ answered r (now (out .exit)) ≡ outcomeAs (outcomeOf walked) (now (out .entry)) ⌝ }
 {
     let count = walked.count;
@@ -114,7 +116,7 @@ fn finish(walked: Walked, out: &mut [u8]) -> SolveAnswer
 }
 
 // Solves a table: every byte string, every budget and every output length is answered.
-pub fn solve(table: &[u8], budget: u32, out: &mut [u8]) -> SolveAnswer
+pub fn solve(table: &[u8], budget: Count, out: &mut [u8]) -> SolveAnswer
     ensures { λ r. ⌜ answered r (now (out .exit)) ≡ answer (now (table .entry)) budget (now (out .entry)) ⌝ }
 {
     match table::check(table) {
@@ -127,7 +129,7 @@ pub fn solve(table: &[u8], budget: u32, out: &mut [u8]) -> SolveAnswer
         }
         Verdict::Readable => {}
     }
-    let needed = 4 * table::wide(table[table::VARIABLES]);
+    let needed = bounds::SET_BYTES * table::wide(table[table::VARIABLES]);
     if out.len() < needed {
         return SolveAnswer {
             number: 7,

@@ -1,31 +1,37 @@
 -- The output after "solved".
 --
---   fourBytes x   == the number x in four bytes, little-endian
---   setBytes a    == the set numbers of the assignment a, one after the other
---   numberAt s at == the number in the four bytes from `at` on
---   setIn out x   == the set number of variable x, read back
---   written a out == the output with them at its start; what stands behind them stays
+--   littleEndian k x  == the number x in k bytes
+--   numberAt k s at   == the number in the k bytes from `at` on
+--   widest            == the largest k of a number that is read
+--   assignmentBytes a == the set numbers of the assignment a, one after the other
+--   written a out     == the output with them at its start; what stands behind them stays
+--   setIn out x       == the set number of variable x, read back
 use mathlib.Core.List.{List, [], _∷_, _++_}
-use Prim.Native.Nat.{ℕ, _+_, _*_, _/_, _%_}
+use Prim.Native.Nat.{ℕ, zero, suc, _+_, _*_, _/_, _%_}
 use lib.ListN.{length, drop, getD}
+use Rattle.bounds.specs.Bounds.{setBytes}
 
--- "Little-endian." "each variable's set number, four bytes"
-abbrev pub fourBytes : ℕ → List ℕ
-fourBytes x = (x % 256) ∷ (x / 256 % 256) ∷ (x / 65536 % 256) ∷ (x / 16777216 % 256) ∷ []
+-- "Little-endian."
+unfoldable pub littleEndian : ℕ → ℕ → List ℕ
+littleEndian zero x = []
+littleEndian (suc k) x = x % 256 ∷ littleEndian k (x / 256)
 
--- "into the part of the output that starts at four times its number"
-unfoldable pub setBytes : List ℕ → List ℕ
-setBytes [] = []
-setBytes (x ∷ a) = fourBytes x ++ setBytes a
+unfoldable pub numberAt : ℕ → List ℕ → ℕ → ℕ
+numberAt zero s at = 0
+numberAt (suc k) s at = getD s at 0 + 256 * numberAt k s (suc at)
 
--- the number in the four bytes from `at` on
-unfoldable pub numberAt : List ℕ → ℕ → ℕ
-numberAt s at = getD s at 0 + 256 * getD s (at + 1) 0 + 65536 * getD s (at + 2) 0 + 16777216 * getD s (at + 3) 0
+abbrev pub widest : ℕ
+widest = 8
 
--- the set number of variable x, read back
-unfoldable pub setIn : List ℕ → ℕ → ℕ
-setIn out x = numberAt out (4 * x)
+-- "each variable's set number, four bytes"
+unfoldable pub assignmentBytes : List ℕ → List ℕ
+assignmentBytes [] = []
+assignmentBytes (x ∷ a) = littleEndian setBytes x ++ assignmentBytes a
 
 -- "Bytes from 4v on stay"
 unfoldable pub written : List ℕ → List ℕ → List ℕ
-written a out = setBytes a ++ drop (4 * length a) out
+written a out = assignmentBytes a ++ drop (setBytes * length a) out
+
+-- "the part of the output that starts at four times its number"
+abbrev pub setIn : List ℕ → ℕ → ℕ
+setIn out x = numberAt setBytes out (setBytes * x)

@@ -1,7 +1,6 @@
 -- Laws that carry the writers to what they write.
 --
 --   take-more       == one element more
---   any ts          == there is a text
 --   joined-more     == one text more
 --   decimal-one, decimal-then == a number of one digit, and one digit more
 --   text-turn, numbers-turn, bytes-turn == a turn of the loop over a slice
@@ -21,7 +20,7 @@ use borrow.Author.Tests.{lt-ltb}
 use Rattle.text.specs.Append.{Appended}
 use Rattle.text.specs.AppendLaws.{appended-none, appended-then, appended-as}
 use Rattle.text.specs.TextLaws.{decimal-short, decimal-long}
-use Rattle.text.specs.Text.{space, digit, decimal, behind, joined, numbersText, bytesText, hexText}
+use Rattle.text.specs.Text.{space, digit, decimal, behind, joined, any, numbersText, bytesText, hexText}
 
 ------------------------------------------------------------------ texts one after the other
 
@@ -35,10 +34,6 @@ behind-more between [] t = ap (λ (x : List ℕ). between ++ x) (sym (append-nil
 behind-more between (s ∷ ts) t =
     append-assoc between (s ++ behind between ts) (between ++ t)
     ∙ ap (λ (x : List ℕ). between ++ x) (append-assoc s (behind between ts) (between ++ t) ∙ ap (λ (x : List ℕ). s ++ x) (behind-more between ts t))
-
-unfoldable pub any : List (List ℕ) → Bool
-any [] = false
-any (t ∷ ts) = true
 
 pub joined-more : (between : List ℕ) (ts : List (List ℕ)) (t : List ℕ) → joined between ts ++ (cond (any ts) between [] ++ t) ≡ joined between (ts ++ (t ∷ []))
 unfolding joined any behind

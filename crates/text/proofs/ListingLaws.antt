@@ -4,15 +4,13 @@
 --   row-in, header-in, few-atoms, variables-are == where the bytes lie, and how many there are
 --   row-text, atom-constant, atom-row == an atom
 --   atoms-left      == a loop over all atoms has come to its end
---   atomTexts t s i == the texts of the atoms of the set s with a number below i
 --   atom-out, atom-there == an atom is left out, or written
---   Below t s b at i later m e == the atoms with a number below i are written, and `later` says whether there were any
---   below-none, below-turn, set-some, set-none == the loop over the atoms of a set
+--   begun-none, begun-turn, set-text == the loop over the atoms of a set
 --   variable-line, lines-none, lines-turn == the lines of the variables
 --   solved-refused, solved-short, solved-all == the lines of all variables
 --   listing-other, listing-solved == the whole text
 use mathlib.Core.Path.{_≡_, refl, sym, ap, ap₂, _∙_}
-use mathlib.Core.Bool.{Bool, true, false, _||_, cond, or-true, or-false}
+use mathlib.Core.Bool.{Bool, true, false, not, _||_, cond, or-true, or-false}
 use mathlib.Core.List.{List, [], _∷_, _++_, append-nil, map, map-append}
 use mathlib.Core.Option.{some, Option·none-ne-some, Option·some-injective}
 use Prim.Native.Nat.{ℕ, zero, suc, _+_, _*_, _-_, _≤_, _<_}
@@ -21,6 +19,7 @@ use native.Mathlib.Numerals.{add-one}
 use lib.Dec.{T, ltb}
 use lib.ListN.{length}
 use borrow.Author.Tests.{lt-ltb, le-ltb}
+use Rattle.bounds.specs.Bounds.{maxAtoms, setBytes}
 use Rattle.el.specs.Test.{bit}
 use Rattle.el.specs.Table.{Filler, topF, Table, rowAt, atoms}
 use Rattle.table.specs.declared.Kind.{Kind}
@@ -31,12 +30,12 @@ use Rattle.table.specs.Reading.{byteAt, Reading, refusal, readable, reading, th
 use Rattle.table.specs.Step.{verdictOf}
 use Rattle.table.specs.CodeLaws.{within-some}
 use Rattle.table.specs.LayoutLaws.{layout, refused-readable}
-use Rattle.output.specs.Written.{numberAt, setIn}
+use Rattle.output.specs.Written.{setIn}
 use Rattle.text.specs.Append.{Appended}
 use Rattle.text.specs.AppendLaws.{appended-none, appended-then, appended-as}
-use Rattle.text.specs.Text.{newline, decimal, joined, numbersText}
-use Rattle.text.specs.Listing.{topText, constantText, variableText, fillerText, codeText, rowText, atomText, atomsIn, ampersand, conjunctionText, atomOf, setText, variableLine, variableLines, solvedText, underNumber, firstLine, listingText}
-use Rattle.text.proofs.Laws.{any, joined-more}
+use Rattle.text.specs.Text.{newline, decimal, joined, any, numbersText}
+use Rattle.text.specs.Listing.{topText, constantText, variableText, fillerText, codeText, rowText, atomText, atomsIn, atomTexts, ampersand, conjunctionText, setText, atomOf, SetBegun, variableLine, variableLines, solvedText, underNumber, firstLine, listingText}
+use Rattle.text.proofs.Laws.{joined-more}
 
 ------------------------------------------------------------------ fillers, rows and atoms
 
@@ -65,18 +64,18 @@ module _ (s : List ℕ) (ok : T (isReadable (reading s))) where
 
   pub atom-constant : (i c : ℕ) → c ≡ headerOf s .c → i < c → constantText i ≡ atomText (tableOf s) i
   unfolding atomText
-  atom-constant i c e h = sym (ap (λ (b : Bool). elim b [ true ↦ constantText i | false ↦ rowText (rowAt (tableOf s .rows) (i - tableOf s .constants)) ]) (lt-ltb i (tableOf s .constants) (omega (arith, layout s ok .constants))))
+  atom-constant i c e h = rw (lt-ltb i (tableOf s .constants) (omega (arith, layout s ok .constants)), atomText)
 
   pub atom-row : (i c : ℕ) → c ≡ headerOf s .c → c ≤ i → rowText (rowAt (tableOf s .rows) (i - c)) ≡ atomText (tableOf s) i
   unfolding atomText
   atom-row i c e h =
-      ap (λ (k : ℕ). rowText (rowAt (tableOf s .rows) (i - k))) (e ∙ sym (layout s ok .constants))
-      ∙ sym (ap (λ (b : Bool). elim b [ true ↦ constantText i | false ↦ rowText (rowAt (tableOf s .rows) (i - tableOf s .constants)) ]) (le-ltb i (tableOf s .constants) (omega (arith, layout s ok .constants))))
+      rw (le-ltb i (tableOf s .constants) (omega (arith, layout s ok .constants)), atomText)
+      (ap (λ (k : ℕ). rowText (rowAt (tableOf s .rows) (i - k))) (e ∙ sym (layout s ok .constants)))
 
   pub header-in : 10 ≤ length s
   header-in = layout s ok .header-in
 
-  pub few-atoms : headerOf s .c + headerOf s .e ≤ 24
+  pub few-atoms : headerOf s .c + headerOf s .e ≤ maxAtoms
   few-atoms = layout s ok .few-atoms
 
   -- a loop over all atoms has come to its end
@@ -90,96 +89,56 @@ module _ (s : List ℕ) (ok : T (isReadable (reading s))) where
 ------------------------------------------------------------------ sets
 
 module _ (t : Table) (s : ℕ) where
-  -- the texts of the atoms with a number below i
-  abbrev pub atomTexts : ℕ → List (List ℕ)
-  atomTexts i = map (atomText t) (atomsIn i s)
-
-  -- the atom i is written, or left out
-  atom-in : (i : ℕ) (b : Bool) → bit i s ≡ b → atomsIn (i + 1) s ≡ elim b [ true ↦ atomsIn i s ++ (i ∷ []) | false ↦ atomsIn i s ]
-  unfolding atomsIn
-  atom-in i b e = ap (λ (k : ℕ). atomsIn k s) (add-one i) ∙ ap (λ (x : Bool). elim x [ true ↦ atomsIn i s ++ (i ∷ []) | false ↦ atomsIn i s ]) e
-
-  of-in : (i : ℕ) (later b : Bool) → bit i s ≡ b → atomOf t s i later ≡ elim b [ true ↦ cond later ampersand [] ++ atomText t i | false ↦ [] ]
-  unfolding atomOf
-  of-in i later b e = ap (λ (x : Bool). elim x [ true ↦ cond later ampersand [] ++ atomText t i | false ↦ [] ]) e
-
   pub atom-out : {b : List ℕ} {at : ℕ} (i : ℕ) (later : Bool) → bit i s ≡ false → Appended b at (atomOf t s i later) b at
-  atom-out {b} {at} i later e = appended-as (appended-none b at) (sym (of-in i later false e))
+  unfolding atomOf
+  atom-out {b} {at} i later e = rw (e, atomOf) (appended-none b at)
 
   pub atom-there : {b m a : List ℕ} {at q r : ℕ} (i : ℕ) (later : Bool) → bit i s ≡ true → Appended b at (cond later ampersand []) m q → Appended m q (atomText t i) a r → Appended b at (atomOf t s i later) a r
-  atom-there i later e x y = appended-as (appended-then x y) (sym (of-in i later true e))
+  unfolding atomOf
+  atom-there i later e x y = rw (e, atomOf) (appended-then x y)
 
-  texts-more : (i : ℕ) → bit i s ≡ true → atomTexts i ++ (atomText t i ∷ []) ≡ atomTexts (i + 1)
-  texts-more i e = sym (ap (map (atomText t)) (atom-in i true e) ∙ map-append (atomText t) (atomsIn i s) (i ∷ []))
-
-  texts-same : (i : ℕ) → bit i s ≡ false → atomTexts i ≡ atomTexts (i + 1)
-  texts-same i e = sym (ap (map (atomText t)) (atom-in i false e))
-
-  set-more : (i : ℕ) → joined ampersand (atomTexts i) ++ atomOf t s i (any (atomTexts i)) ≡ joined ampersand (atomTexts (i + 1))
-  set-more i = go (bit i s) refl
+  -- the text of one atom more, and whether there is one
+  set-more : (i : ℕ) → (joined ampersand (atomTexts t s i) ++ atomOf t s i (any (atomTexts t s i)) ≡ joined ampersand (atomTexts t s (i + 1)))
+      × ((any (atomTexts t s i) || bit i s) ≡ any (atomTexts t s (i + 1)))
+  unfolding any atomOf atomsIn
+  set-more i = rw add-one (go (bit i s))
     where
-      go : (b : Bool) → bit i s ≡ b → joined ampersand (atomTexts i) ++ atomOf t s i (any (atomTexts i)) ≡ joined ampersand (atomTexts (i + 1))
-      go true e =
-          ap (λ (x : List ℕ). joined ampersand (atomTexts i) ++ x) (of-in i (any (atomTexts i)) true e)
-          ∙ joined-more ampersand (atomTexts i) (atomText t i)
-          ∙ ap (joined ampersand) (texts-more i e)
-      go false e =
-          ap (λ (x : List ℕ). joined ampersand (atomTexts i) ++ x) (of-in i (any (atomTexts i)) false e)
-          ∙ append-nil (joined ampersand (atomTexts i))
-          ∙ ap (joined ampersand) (texts-same i e)
+      any-last : (ts : List (List ℕ)) (x : List ℕ) → any (ts ++ (x ∷ [])) ≡ true
+      any-last [] x = refl
+      any-last (y ∷ ts) x = refl
 
-  any-last : (ts : List (List ℕ)) (x : List ℕ) → any (ts ++ (x ∷ [])) ≡ true
-  unfolding any
-  any-last [] x = refl
-  any-last (y ∷ ts) x = refl
+      go : (b : Bool) → (joined ampersand (atomTexts t s i) ++ elim b [ true ↦ cond (any (atomTexts t s i)) ampersand [] ++ atomText t i | false ↦ [] ] ≡ joined ampersand (map (atomText t) (elim b [ true ↦ atomsIn i s ++ (i ∷ []) | false ↦ atomsIn i s ])))
+          × ((any (atomTexts t s i) || b) ≡ any (map (atomText t) (elim b [ true ↦ atomsIn i s ++ (i ∷ []) | false ↦ atomsIn i s ])))
+      go true = rw map-append (joined-more ampersand (atomTexts t s i) (atomText t i), or-true (any (atomTexts t s i)) ∙ sym (any-last (atomTexts t s i) (atomText t i)))
+      go false = (append-nil (joined ampersand (atomTexts t s i)), or-false (any (atomTexts t s i)))
 
-  any-more : (i : ℕ) → (any (atomTexts i) || bit i s) ≡ any (atomTexts (i + 1))
-  any-more i = go (bit i s) refl
-    where
-      go : (b : Bool) → bit i s ≡ b → (any (atomTexts i) || bit i s) ≡ any (atomTexts (i + 1))
-      go true e = ap (λ (b : Bool). any (atomTexts i) || b) e ∙ or-true (any (atomTexts i)) ∙ sym (any-last (atomTexts i) (atomText t i)) ∙ ap any (texts-more i e)
-      go false e = ap (λ (b : Bool). any (atomTexts i) || b) e ∙ or-false (any (atomTexts i)) ∙ ap any (texts-same i e)
-
-  -- the atoms with a number below i are written, and `later` says whether there were any
-  pub record Below (b : List ℕ) (at i : ℕ) (later : Bool) (m : List ℕ) (e : ℕ) : Type 0 where
-    pub later-is : later ≡ any (atomTexts i)
-    pub written : Appended b at (joined ampersand (atomTexts i)) m e
-
-  pub below-none : (b : List ℕ) (at : ℕ) → Below b at 0 false b at
+  pub begun-none : (b : List ℕ) (at : ℕ) → SetBegun t s b at 0 false b at
   unfolding joined atomsIn any
-  below-none b at = record { later-is = refl; written = appended-none b at }
+  begun-none b at = record { later-is = refl; written = appended-none b at }
 
-  pub below-turn : {b m a : List ℕ} {at i e r : ℕ} {later later′ in-set : Bool} → Below b at i later m e → Appended m e (atomOf t s i later) a r → in-set ≡ bit i s → later′ ≡ (later || in-set) → Below b at (i + 1) later′ a r
-  below-turn {b} {m} {a} {at} {i} {e} {r} {later} {later′} {in-set} h x p q = record {
-    later-is = q ∙ ap₂ _||_ (h .later-is) p ∙ any-more i;
-    written = appended-as (appended-then (h .written) x) (ap (λ (l : Bool). joined ampersand (atomTexts i) ++ atomOf t s i l) (h .later-is) ∙ set-more i);
+  pub begun-turn : {b m a : List ℕ} {at i e r : ℕ} {later later′ in-set : Bool} → SetBegun t s b at i later m e → Appended m e (atomOf t s i later) a r → in-set ≡ bit i s → later′ ≡ (later || in-set) → SetBegun t s b at (i + 1) later′ a r
+  begun-turn {b} {m} {a} {at} {i} {e} {r} {later} {later′} {in-set} h x p q = record {
+    later-is = q ∙ ap₂ _||_ (h .later-is) p ∙ set-more i .1;
+    written = appended-as (appended-then (h .written) x) (ap (λ (l : Bool). joined ampersand (atomTexts t s i) ++ atomOf t s i l) (h .later-is) ∙ set-more i .0);
   }
 
-  conjunction-some : (ts : List (List ℕ)) → any ts ≡ true → joined ampersand ts ≡ conjunctionText ts
-  unfolding any conjunctionText
-  conjunction-some [] e = absurd (let z : _≡_ {A = ℕ} 0 1 = cc in let w : ⊥ = omega arith in w)
-  conjunction-some (x ∷ ts) e = refl
-
-  conjunction-none : (ts : List (List ℕ)) → any ts ≡ false → joined ampersand ts ++ topText ≡ conjunctionText ts
+  -- the atoms that are written are the set's text, with `top` behind them where there are none
+  conjunction : (ts : List (List ℕ)) (later : Bool) → later ≡ any ts → joined ampersand ts ++ cond (not later) topText [] ≡ conjunctionText ts
   unfolding any conjunctionText joined
-  conjunction-none [] e = refl
-  conjunction-none (x ∷ ts) e = absurd (let z : _≡_ {A = ℕ} 0 1 = cc in let w : ⊥ = omega arith in w)
+  conjunction [] later e = rw e
+  conjunction (x ∷ ts) later e = rw e (append-nil (joined ampersand (x ∷ ts)))
 
-  pub set-some : {b m : List ℕ} {at i e : ℕ} {later : Bool} → i ≡ atoms t → later ≡ true → Below b at i later m e → Appended b at (setText t s) m e
+  pub set-text : {b m a : List ℕ} {at i e r : ℕ} {later : Bool} → i ≡ atoms t → SetBegun t s b at i later m e → Appended m e (cond (not later) topText []) a r → Appended b at (setText t s) a r
   unfolding setText
-  set-some {b} {m} {at} {i} {e} q l h = appended-as (h .written) (conjunction-some (atomTexts i) (sym (h .later-is) ∙ l) ∙ ap (λ (k : ℕ). conjunctionText (atomTexts k)) q)
-
-  pub set-none : {b m a : List ℕ} {at i e r : ℕ} {later : Bool} → i ≡ atoms t → later ≡ false → Below b at i later m e → Appended m e topText a r → Appended b at (setText t s) a r
-  unfolding setText
-  set-none {b} {m} {a} {at} {i} {e} q l h x = appended-as (appended-then (h .written) x) (conjunction-none (atomTexts i) (sym (h .later-is) ∙ l) ∙ ap (λ (k : ℕ). conjunctionText (atomTexts k)) q)
+  set-text {b} {m} {a} {at} {i} {e} {r} {later} q h x = appended-as (appended-then (h .written) x) (conjunction (atomTexts t s i) later (h .later-is) ∙ ap (λ (k : ℕ). conjunctionText (atomTexts t s k)) q)
 
 ------------------------------------------------------------------ lines
 
 module _ (t : Table) (out : List ℕ) where
-  pub variable-line : {b m₁ m₂ m₃ a : List ℕ} {at e₁ e₂ e₃ r set : ℕ} (x : ℕ) → set ≡ numberAt out (4 * x)
+  pub variable-line : {b m₁ m₂ m₃ a : List ℕ} {at e₁ e₂ e₃ r set : ℕ} (x : ℕ) → set ≡ setIn out x
       → Appended b at (variableText x) m₁ e₁ → Appended m₁ e₁ (0x3A ∷ 0x20 ∷ []) m₂ e₂ → Appended m₂ e₂ (setText t set) m₃ e₃ → Appended m₃ e₃ newline a r
       → Appended b at (variableLine t (setIn out x) x) a r
-  unfolding variableLine setIn
+  unfolding variableLine
   variable-line x q h i j k =
       appended-as (appended-then h (appended-then i (appended-then j k)))
       (ap (λ (y : ℕ). variableText x ++ (0x3A ∷ 0x20 ∷ (setText t y ++ newline))) q)
@@ -192,15 +151,13 @@ module _ (t : Table) (out : List ℕ) where
   unfolding variableLines
   lines-turn x h k = appended-as (appended-then h k) (sym (ap (variableLines t (setIn out)) (add-one x)))
 
-  solved-by : (b : Bool) → ltb (length out) (4 * t .variables) ≡ b → solvedText t out ≡ elim b [ true ↦ [] | false ↦ variableLines t (setIn out) (t .variables) ]
+  pub solved-short : (b : List ℕ) (at n : ℕ) → t .variables ≡ n → length out < setBytes * n → Appended b at (solvedText t out) b at
   unfolding solvedText
-  solved-by b e = ap (λ (x : Bool). elim x [ true ↦ [] | false ↦ variableLines t (setIn out) (t .variables) ]) e
+  solved-short b at n e h = rw (lt-ltb (length out) (setBytes * t .variables) (omega arith), solvedText) (appended-none b at)
 
-  pub solved-short : (b : List ℕ) (at n : ℕ) → t .variables ≡ n → length out < 4 * n → Appended b at (solvedText t out) b at
-  solved-short b at n e h = appended-as (appended-none b at) (sym (solved-by true (lt-ltb (length out) (4 * t .variables) (omega arith))))
-
-  pub solved-all : {b a : List ℕ} {at r : ℕ} (n : ℕ) → t .variables ≡ n → 4 * n ≤ length out → Appended b at (variableLines t (setIn out) n) a r → Appended b at (solvedText t out) a r
-  solved-all n e h x = appended-as x (ap (variableLines t (setIn out)) (sym e) ∙ sym (solved-by false (le-ltb (length out) (4 * t .variables) (omega arith))))
+  pub solved-all : {b a : List ℕ} {at r : ℕ} (n : ℕ) → t .variables ≡ n → setBytes * n ≤ length out → Appended b at (variableLines t (setIn out) n) a r → Appended b at (solvedText t out) a r
+  unfolding solvedText
+  solved-all n e h x = rw (le-ltb (length out) (setBytes * t .variables) (omega arith), solvedText) (appended-as x (ap (variableLines t (setIn out)) (sym e)))
 
 module _ (s : List ℕ) where
   refused-none : (n p : ℕ) → verdictOf (reading s) ≡ Refused n p → tableOf s .variables ≡ 0

@@ -4,10 +4,11 @@
 --   decimalTo k n      == the last k digits of n, without leading zeros
 --   decimal n          == n in decimal, without leading zeros
 --   joined between ts  == the texts ts one after the other, with the text `between` between two
+--   any ts             == there is a text
 --   numbersText ns     == the numbers ns with single spaces
 --   bytesText bs       == the bytes bs in hexadecimal, two digits each
 --   hexText bs         == the same, or `-` for none
-use mathlib.Core.Bool.{true, false, cond}
+use mathlib.Core.Bool.{Bool, true, false, cond}
 use mathlib.Core.List.{List, [], _∷_, _++_, map}
 use Prim.Native.Nat.{ℕ, zero, suc, _+_, _/_, _%_}
 use lib.Dec.{ltb}
@@ -37,6 +38,10 @@ behind between (t ∷ ts) = between ++ (t ++ behind between ts)
 unfoldable pub joined : List ℕ → List (List ℕ) → List ℕ
 joined between [] = []
 joined between (t ∷ ts) = t ++ behind between ts
+
+unfoldable pub any : List (List ℕ) → Bool
+any [] = false
+any (t ∷ ts) = true
 
 unfoldable pub numbersText : List ℕ → List ℕ
 numbersText ns = joined space (map decimal ns)

@@ -8,6 +8,7 @@ ghost use lib.Dec.{T};
 ghost use lib.ListN.{length};
 ghost use Rattle.el.specs.Test.{bit};
 ghost use Rattle.el.specs.Table.{rowAt};
+ghost use Rattle.bounds.specs.Bounds.{setBits, setBytes};
 ghost use Rattle.table.specs.Code.{kindOf};
 ghost use Rattle.table.specs.Reading.{byteAt, reading, tableOf, isReadable, headerOf};
 ghost use Rattle.text.specs.Append.{Appended};
@@ -15,8 +16,13 @@ ghost use Rattle.text.specs.Text.{digit, decimal, numbersText, bytesText
 ghost use Rattle.output.specs.Written.{setIn};
 ghost use Rattle.text.specs.Listing.{codeText, rowText, atomText, atomOf, setText, variableLine, variableLines, solvedText, listingText};
 ghost use Rattle.text.specs.Batch.{readText, lineText, solveText};
+use bounds::Count;
+use bounds::SetNumber;
 use table::Kind;
 use table::Verdict;
+
+// The longest listing: three numbers of at most 20 digits, and for each variable a line with at most 10 characters an atom and 9 others.
+pub const LISTING_ROOM: usize = 3 * 21 + 1 + bounds::MAX_VARIABLES * (10 * bounds::MAX_ATOMS + 9);
 
 // One byte.
 fn put_byte(byte: u8, buffer: &mut [u8], at: usize) -> usize
@@ -166,8 +172,8 @@ fn put_atom(table: &[u8], i: usize, buffer: &mut [u8], at: usize) -> usize
 }
 
 // Is atom i in the set?
-fn in_set(set: u32, i: usize) -> bool
-    requires { ⌜ i < 32 ⌝ }
+fn in_set(set: SetNumber, i: usize) -> bool
+    requires { ⌜ i < setBits ⌝ }
     ensures { λ r. ⌜ r ≡ bit i set ⌝ }
 {
     (set >> i) % 2 == 1
@@ -183,7 +189,14 @@ fn either(a: bool, b: bool) -> bool
 }
 
 // Atom i, where the set has it, behind those that were written already.
-fn put_atom_of(table: &[u8], set: u32, i: usize, later: bool, buffer: &mut [u8], at: usize) -> usize
+fn put_atom_of(
+    table: &[u8],
+    set: SetNumber,
+    i: usize,
+    later: bool,
+    buffer: &mut [u8],
+    at: usize,
+) -> usize
     requires { ⌜ T (isReadable (reading (now table))) × (i < headerOf (now table) .c + headerOf (now table) .e) ⌝ }
     ensures { λ r. ⌜ Appended (now (buffer .entry)) at (atomOf (tableOf (now (table .entry))) set i later) (now (buffer .exit)) r ⌝ }
 {
@@ -195,7 +208,7 @@ fn put_atom_of(table: &[u8], set: u32, i: usize, later: bool, buffer: &mut [u8],
 }
 
 // A set: its atoms in rising number.
-fn put_set(table: &[u8], set: u32, buffer: &mut [u8], at: usize) -> usize
+fn put_set(table: &[u8], set: SetNumber, buffer: &mut [u8], at: usize) -> usize
     requires { ⌜ T (isReadable (reading (now table))) ⌝ }
     ensures { λ r. ⌜ Appended (now (buffer .entry)) at (setText (tableOf (now (table .entry))) set) (now (buffer .exit)) r ⌝ }
 {
@@ -208,18 +221,15 @@ fn put_set(table: &[u8], set: u32, buffer: &mut [u8], at: usize) -> usize
         later = either(later, in_set(set, i));
         i += 1;
     }
-    if later {
-        return end;
-    }
-    put_text(b"top", buffer, end)
+    put_between(!later, b"top", buffer, end)
 }
 
 // The line of variable x.
 fn put_variable(table: &[u8], x: usize, output: &[u8], buffer: &mut [u8], at: usize) -> usize
-    requires { ⌜ T (isReadable (reading (now table))) × (4 * x + 4 ≤ length (now output)) ⌝ }
+    requires { ⌜ T (isReadable (reading (now table))) × (setBytes * x + setBytes ≤ length (now output)) ⌝ }
     ensures { λ r. ⌜ Appended (now (buffer .entry)) at (variableLine (tableOf (now (table .entry))) (setIn (now (output .entry)) x) x) (now (buffer .exit)) r ⌝ }
 {
-    let set = output::number_at(output, 4 * x);
+    let set = output::set_in(output, x);
     let mut end = put_named(b'v', x, buffer, at);
     end = put_text(b": ", buffer, end);
     end = put_set(table, set, buffer, end);
@@ -228,7 +238,7 @@ fn put_variable(table: &[u8], x: usize, output: &[u8], buffer: &mut [u8], at: us
 
 // The lines of the first n variables.
 fn put_variables(table: &[u8], n: usize, output: &[u8], buffer: &mut [u8], at: usize) -> usize
-    requires { ⌜ T (isReadable (reading (now table))) × (4 * n ≤ length (now output)) ⌝ }
+    requires { ⌜ T (isReadable (reading (now table))) × (setBytes * n ≤ length (now output)) ⌝ }
     ensures { λ r. ⌜ Appended (now (buffer .entry)) at (variableLines (tableOf (now (table .entry))) (setIn (now (output .entry))) n) (now (buffer .exit)) r ⌝ }
 {
     let mut end = at;
@@ -251,14 +261,14 @@ fn put_solved(table: &[u8], output: &[u8], buffer: &mut [u8], at: usize) -> usiz
         Verdict::Readable => {}
     }
     let n = byte_at(table, table::VARIABLES);
-    if output.len() < 4 * n {
+    if output.len() < bounds::SET_BYTES * n {
         return at;
     }
     put_variables(table, n, output, buffer, at)
 }
 
 // Number, count and place, with single spaces.
-fn put_answer(number: u32, count: u32, place: usize, buffer: &mut [u8], at: usize) -> usize
+fn put_answer(number: u32, count: Count, place: usize, buffer: &mut [u8], at: usize) -> usize
     ensures { λ r. ⌜ Appended (now (buffer .entry)) at (numbersText (number ∷ count ∷ place ∷ [])) (now (buffer .exit)) r ⌝ }
 {
     put_numbers(&[number as usize, count as usize, place], buffer, at)
@@ -269,7 +279,7 @@ fn put_answer(number: u32, count: u32, place: usize, buffer: &mut [u8], at: usiz
 pub fn listing(
     table: &[u8],
     number: u32,
-    count: u32,
+    count: Count,
     place: usize,
     output: &[u8],
     buffer: &mut [u8],
@@ -322,7 +332,13 @@ pub fn hex_line(part: &[u8], buffer: &mut [u8]) -> usize
 }
 
 // The solver's answer as a line, with the output.
-pub fn solve_line(number: u32, count: u32, place: usize, output: &[u8], buffer: &mut [u8]) -> usize
+pub fn solve_line(
+    number: u32,
+    count: Count,
+    place: usize,
+    output: &[u8],
+    buffer: &mut [u8],
+) -> usize
     ensures { λ r. ⌜ Appended (now (buffer .entry)) 0 (solveText number count place (now (output .entry))) (now (buffer .exit)) r ⌝ }
 {
     let mut end = put_answer(number, count, place, buffer, 0);

@@ -6,21 +6,22 @@ use native.Mathlib.Omega.{arith}
 use lib.ListN.{length, length-take}
 use lib.Seq.{length-take-le}
 use borrow.Author.Tests.{not-false}
+use Rattle.batch.specs.Question.{most, lineRoom}
 use Rattle.batch.proofs.Laws.{length-few, room-few}
 use Rattle.batch.proofs.answer_one.Statement.{statement}
 use Rattle.batch.proofs.answer_one.Tie as tie
 
 is-read-requires : tie.Need-is-read-requires
-is-read-requires c κs = let h : c .before .before .before .before .question-of .result .length ≤ 1024 = length-few _ _ (c .before .before .before .is-question .ensures) (not-false _ (c .before .before .if3 .left)) in let m : 1024 ≡ length (c .before .zeros .result) = c .before .zeros .ensures in omega arith
+is-read-requires c κs = let h : c .before .before .before .before .question-of .result .length ≤ most = length-few _ _ (c .before .before .before .is-question .ensures) (not-false _ (c .before .before .if3 .left)) in let m : most ≡ length (c .before .zeros .result) = c .before .zeros .ensures in omega arith
 
 array-share-prefix-table : tie.Need-array-share-prefix-table
-array-share-prefix-table c = let h : c .before .before .before .before .before .before .before .before .question-of .result .length ≤ 1024 = length-few _ _ (c .before .before .before .before .before .before .before .is-question .ensures) (not-false _ (c .before .before .before .before .before .before .if3 .left)) in let m : length (c .before .before .before .is-read .last .0) ≡ 1024 = search needs in omega arith
+array-share-prefix-table c = let h : c .before .before .before .before .before .before .before .before .question-of .result .length ≤ most = length-few _ _ (c .before .before .before .before .before .before .before .is-question .ensures) (not-false _ (c .before .before .before .before .before .before .if3 .left)) in let m : length (c .before .before .before .is-read .last .0) ≡ most = search needs in omega arith
 
 slice-aggregate-reply-to : tie.Need-slice-aggregate-reply-to
-slice-aggregate-reply-to c = let h : c .before .before .before .before .before .before .before .before .before .question-of .result .length ≤ 1024 = length-few _ _ (c .before .before .before .before .before .before .before .before .is-question .ensures) (not-false _ (c .before .before .before .before .before .before .before .if3 .left)) in let m : length (c .before .before .before .before .is-read .last .0) ≡ 1024 = search needs in sym (length-take-le (c .before .before .before .before .before .before .before .before .before .question-of .result .length) (c .before .before .before .before .is-read .last .0) (omega arith))
+slice-aggregate-reply-to c = let h : c .before .before .before .before .before .before .before .before .before .question-of .result .length ≤ most = length-few _ _ (c .before .before .before .before .before .before .before .before .is-question .ensures) (not-false _ (c .before .before .before .before .before .before .before .if3 .left)) in let m : length (c .before .before .before .before .is-read .last .0) ≡ most = search needs in sym (length-take-le (c .before .before .before .before .before .before .before .before .before .question-of .result .length) (c .before .before .before .before .is-read .last .0) (omega arith))
 
 reply-to-requires : tie.Need-reply-to-requires
-reply-to-requires c κs = (room-few _ _ (c .before .before .before .before .before .before .before .before .before .before .question-of .ensures), let h : c .before .before .before .before .before .before .before .before .before .before .question-of .result .length ≤ 1024 = length-few _ _ (c .before .before .before .before .before .before .before .before .before .is-question .ensures) (not-false _ (c .before .before .before .before .before .before .before .before .if3 .left)) in let m : length (c .before .before .before .before .before .is-read .last .0) ≡ 1024 = search needs in simp length-take (omega arith), let l : 4096 ≡ length (c .before .before .buffer .result) = c .before .before .buffer .ensures in omega arith)
+reply-to-requires c κs = (room-few _ _ (c .before .before .before .before .before .before .before .before .before .before .question-of .ensures), let h : c .before .before .before .before .before .before .before .before .before .before .question-of .result .length ≤ most = length-few _ _ (c .before .before .before .before .before .before .before .before .before .is-question .ensures) (not-false _ (c .before .before .before .before .before .before .before .before .if3 .left)) in let m : length (c .before .before .before .before .before .is-read .last .0) ≡ most = search needs in simp length-take (omega arith), let l : lineRoom ≡ length (c .before .before .buffer .result) = c .before .before .buffer .ensures in omega arith)
 
 pub answer-one-spec : {M : Type 1} → statement M
 answer-one-spec =

@@ -6,7 +6,7 @@ use Rattle.batch.proofs.question_of.Tie as tie
 
 returns : tie.Need-returns
 unfolding questionOf
-returns c = cc (c .before .before .before .number-at .ensures, c .before .before .two-at .ensures, c .before .least .ensures, c .two-at2 .ensures)
+returns c = cc (c .before .before .before .number-at .ensures .0, c .before .before .number-at2 .ensures .0, c .before .least .ensures, c .number-at3 .ensures .0)
 
 pub question-of-spec : {M : Type 1} → statement M
 question-of-spec =
@@ -14,6 +14,7 @@ question-of-spec =
     (tie.spec
     (λ c. search needs)
     (λ c κs. search needs)
+    (λ c. search needs)
     (λ c κs. search needs)
     (λ c κs. search needs)
     (λ c κs. search needs)

@@ -3,7 +3,7 @@ use borrow.Author.Needs.{needs}
 use mathlib.Core.Path.{_≡_, sym, ap, _∙_}
 use native.Mathlib.Omega.{arith}
 use lib.ListN.{length, take}
-use Rattle.batch.specs.Question.{solveReply}
+use Rattle.batch.specs.Question.{most, solveReply}
 use Rattle.batch.proofs.Laws.{reply-read, reply-line, reply-solve, front, front-length}
 use Rattle.batch.proofs.reply_to.Statement.{statement}
 use Rattle.batch.proofs.reply_to.Tie as tie
@@ -15,13 +15,13 @@ returns-2 : tie.Need-returns-2
 returns-2 c = (c .before .before .line-reply .ensures .0, c .before .before .line-reply .ensures .1 ∙ reply-line _ _ (omega arith))
 
 slice-aggregate-solve-reply : tie.Need-slice-aggregate-solve-reply
-slice-aggregate-solve-reply c = sym (front-length (c .before .before .before .before .before .before .before .before .args .q .room) 1024 0xAA (c .before .filled .result) (c .before .filled .ensures) (c .before .before .before .before .before .before .before .before .pre .0))
+slice-aggregate-solve-reply c = sym (front-length (c .before .before .before .before .before .before .before .before .args .q .room) most 0xAA (c .before .filled .result) (c .before .filled .ensures) (c .before .before .before .before .before .before .before .before .pre .0))
 
 solve-reply-requires : tie.Need-solve-reply-requires
-solve-reply-requires c κs = (let e : length (take (c .before .before .before .before .before .before .before .before .before .args .q .room) (c .before .before .filled .result)) ≡ c .before .before .before .before .before .before .before .before .before .args .q .room = front-length (c .before .before .before .before .before .before .before .before .before .args .q .room) 1024 0xAA (c .before .before .filled .result) (c .before .before .filled .ensures) (c .before .before .before .before .before .before .before .before .before .pre .0) in omega arith, c .before .before .before .before .before .before .before .before .before .pre .2)
+solve-reply-requires c κs = (let e : length (take (c .before .before .before .before .before .before .before .before .before .args .q .room) (c .before .before .filled .result)) ≡ c .before .before .before .before .before .before .before .before .before .args .q .room = front-length (c .before .before .before .before .before .before .before .before .before .args .q .room) most 0xAA (c .before .before .filled .result) (c .before .before .filled .ensures) (c .before .before .before .before .before .before .before .before .before .pre .0) in omega arith, c .before .before .before .before .before .before .before .before .before .pre .2)
 
 returns-3 : tie.Need-returns-3
-returns-3 c = (c .before .before .before .solve-reply .ensures .0, c .before .before .before .solve-reply .ensures .1 ∙ ap (solveReply _ _) (front (c .before .before .before .before .before .before .before .before .before .before .before .before .before .args .q .room) 1024 0xAA (c .before .before .before .before .before .before .filled .result) (c .before .before .before .before .before .before .filled .ensures) (c .before .before .before .before .before .before .before .before .before .before .before .before .before .pre .0)) ∙ reply-solve _ _ (c .before .before .before .before .before .before .before .before .before .if1 .left) (c .before .before .before .before .before .before .before .if2 .left))
+returns-3 c = (c .before .before .before .solve-reply .ensures .0, c .before .before .before .solve-reply .ensures .1 ∙ ap (solveReply _ _) (front (c .before .before .before .before .before .before .before .before .before .before .before .before .before .args .q .room) most 0xAA (c .before .before .before .before .before .before .filled .result) (c .before .before .before .before .before .before .filled .ensures) (c .before .before .before .before .before .before .before .before .before .before .before .before .before .pre .0)) ∙ reply-solve _ _ (c .before .before .before .before .before .before .before .before .before .if1 .left) (c .before .before .before .before .before .before .before .if2 .left))
 
 pub reply-to-spec : {M : Type 1} → statement M
 reply-to-spec =

@@ -5,7 +5,7 @@
 --   read-is, line-is, solve-is == the answer of a call, written to a line that is long enough
 --   reply-read, reply-line, reply-solve == the answer to a question, by its kind
 --   front, front-length   == the first bytes of an array that is filled with one byte
-use mathlib.Core.Path.{_≡_, refl, sym, ap, _∙_}
+use mathlib.Core.Path.{_≡_, refl, sym, ap, ap₂, _∙_}
 use mathlib.Core.Bool.{Bool, true, false, _&&_, cond}
 use mathlib.Core.List.{List, [], _∷_}
 use Prim.Native.Nat.{ℕ, zero, suc, _+_, _≤_, _<_, min}
@@ -14,6 +14,8 @@ use lib.Dec.{leb, leb→le, ltb}
 use lib.ListN.{length, take, drop, replicate, length-take, length-drop, length-replicate}
 use borrow.Author.Tests.{le-leb, lt-leb, eq-eqb, ne-eqb}
 use Rattle.io.specs.Counts.{Counts}
+use Rattle.answer.specs.declared.Handed.{Handed}
+use Rattle.answer.specs.Handed.{handed}
 use Rattle.table.specs.Reading.{byteAt, reading, isReadable, headerOf}
 use Rattle.table.specs.Layout.{lineStart}
 use Rattle.el.specs.TestLaws.{true-is, and-right}
@@ -24,11 +26,10 @@ use Rattle.text.specs.Batch.{readText, lineText, solveText}
 use Rattle.text.specs.Room.{Numbers}
 use Rattle.text.specs.FitsLaws.{read-fits, line-fits, solve-fits}
 use Rattle.makrothel.specs.declared.ReadAnswer.{ReadAnswer}
-use Rattle.makrothel.specs.declared.SolveAnswer.{SolveAnswer}
 use Rattle.makrothel.specs.Answer.{readAnswer, hasLine, linePart}
-use Rattle.makrothel.specs.Solve.{answered, answer}
+use Rattle.makrothel.specs.Solve.{answer}
 use Rattle.batch.specs.declared.Question.{Question}
-use Rattle.batch.specs.Question.{most, lineRoom, lengthBytes, questionOf, isQuestion, readReplyOf, readReply, lineReply, solveReplyOf, solveReply, reply}
+use Rattle.batch.specs.Question.{most, lineRoom, lengthBytes, questionOf, isQuestion, readReplyOf, readReply, lineReply, solveReply, reply}
 
 ------------------------------------------------------------------ questions
 
@@ -78,10 +79,10 @@ module _ {b after : List ℕ} {r : ℕ} (room : lineRoom ≤ length b) (s : List
   unfolding lineReply
   line-is n part e h = at-start room (omega (arith, line-fits part, part-length s n, ap length e)) (ap lineText e)
 
-  pub solve-is : (budget : ℕ) (before out : List ℕ) (a : SolveAnswer) → answered a out ≡ answer s budget before → Numbers (a .number ∷ a .count ∷ a .place ∷ []) → length out ≤ most
-      → Appended b 0 (solveText (a .number) (a .count) (a .place) out) after r → Counts r after × (take r after ≡ solveReply s budget before)
-  unfolding answered solveReply solveReplyOf
-  solve-is budget before out a e n h = at-start room (omega (arith, solve-fits (a .number) (a .count) (a .place) out n)) (ap solveReplyOf e)
+  pub solve-is : (budget : ℕ) (before out : List ℕ) (a : Handed) → a ≡ handed (answer s budget before .says) → out ≡ answer s budget before .output → Numbers (a .number ∷ a .count ∷ a .place ∷ []) → length out ≤ most
+      → Appended b 0 (solveText a out) after r → Counts r after × (take r after ≡ solveReply s budget before)
+  unfolding solveReply
+  solve-is budget before out a e o n h = at-start room (omega (arith, solve-fits a out n)) (ap₂ solveText e o)
 
 -- the first bytes of an array that is filled with one byte
 front-all : (n m x : ℕ) → n ≤ m → take n (replicate m x) ≡ replicate n x

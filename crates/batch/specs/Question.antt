@@ -12,12 +12,13 @@ use mathlib.Core.List.{List}
 use Prim.Native.Nat.{ℕ, min}
 use lib.Dec.{eqb, leb}
 use lib.ListN.{getD, replicate}
+use Rattle.answer.specs.Handed.{handed}
 use Rattle.table.specs.Reading.{reading}
 use Rattle.output.specs.Written.{numberAt}
 use Rattle.text.specs.Batch.{readText, lineText, solveText}
 use Rattle.makrothel.specs.declared.ReadAnswer.{ReadAnswer}
 use Rattle.makrothel.specs.Answer.{readAnswer, linePart}
-use Rattle.makrothel.specs.Solve.{Answered, answer}
+use Rattle.makrothel.specs.Solve.{answer}
 use Rattle.batch.specs.declared.Question.{Question}
 
 -- how long a table and an output may be
@@ -57,11 +58,8 @@ unfoldable pub lineReply : List ℕ → ℕ → List ℕ
 lineReply s n = lineText (linePart s n)
 
 -- `number count place` and the whole output afterwards
-unfoldable pub solveReplyOf : Answered → List ℕ
-solveReplyOf a = solveText (a .number) (a .count) (a .place) (a .output)
-
 unfoldable pub solveReply : List ℕ → ℕ → List ℕ → List ℕ
-solveReply s b out = solveReplyOf (answer s b out)
+solveReply s b out = solveText (handed (answer s b out .says)) (answer s b out .output)
 
 -- the output is filled with the byte AA before the call
 unfoldable pub reply : Question → List ℕ → List ℕ

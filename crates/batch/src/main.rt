@@ -99,7 +99,7 @@ fn solve_reply(table: &[u8], budget: Count, output: &mut [u8], line: &mut [u8]) 
     ensures { λ r. ⌜ take r (now (line .exit)) ≡ solveReply (now (table .entry)) budget (now (output .entry)) ⌝ }
 {
     let a = makrothel::solve(table, budget, output);
-    text::solve_line(a.number, a.count, a.place, output, line)
+    text::solve_line(a, output, line)
 }
 
 // The answer to a question, as a line.

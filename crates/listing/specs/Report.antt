@@ -1,6 +1,5 @@
 -- What the listing program writes.
 --
---   mostRead       == how many bytes are read
 --   listingBudget  == how many nodes are allowed
 --   listingOutput  == the output before the call
 --   answerText s a == the solver's answer a to the bytes s as text
@@ -9,12 +8,9 @@ use mathlib.Core.List.{List}
 use Prim.Native.Nat.{ℕ, _*_}
 use lib.ListN.{replicate}
 use Rattle.bounds.specs.Bounds.{maxVariables, setBytes}
+use Rattle.answer.specs.Handed.{handed}
 use Rattle.text.specs.Listing.{listingText}
 use Rattle.makrothel.specs.Solve.{Answered, answer}
-
--- "at most 699 bytes are read": one more than the longest readable table has
-abbrev pub mostRead : ℕ
-mostRead = 699
 
 -- "solves it with budget 1,000,000"
 abbrev pub listingBudget : ℕ
@@ -24,7 +20,7 @@ abbrev pub listingOutput : List ℕ
 listingOutput = replicate (setBytes * maxVariables) 0
 
 unfoldable pub answerText : List ℕ → Answered → List ℕ
-answerText s a = listingText s (a .number) (a .count) (a .place) (a .output)
+answerText s a = listingText s (handed (a .says)) (a .output)
 
 unfoldable pub reportText : List ℕ → List ℕ
 reportText s = answerText s (answer s listingBudget listingOutput)

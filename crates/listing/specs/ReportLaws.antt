@@ -16,8 +16,10 @@ use Rattle.bounds.specs.Bounds.{maxAtoms, maxVariables, setBytes, setNumbers}
 use Rattle.el.specs.TestLaws.{everyOf-at}
 use Rattle.el.specs.Table.{Table, atoms}
 use Rattle.el.specs.Assignment.{Assignment, IsAssignment, setOf}
+use Rattle.answer.specs.declared.Answer.the-variants.{Solved}
+use Rattle.answer.specs.Handed.{handed}
 use Rattle.table.specs.Reading.{Reading, theTable, tableOf, reading}
-use Rattle.table.specs.Bytes.{countsOf, Fits, IsTable}
+use Rattle.table.specs.Bytes.{countsOf, Fits, IsTable, enoughLength}
 use Rattle.table.specs.LengthLaws.{first-bytes}
 use Rattle.output.specs.Written.{setIn, written}
 use Rattle.output.specs.WrittenLaws.{written-length, set-back}
@@ -25,20 +27,20 @@ use Rattle.text.specs.Listing.{variableLine, variableLines, listingText, firstL
 use Rattle.makrothel.specs.Numbers.{FirstSolving, N}
 use Rattle.makrothel.specs.Solve.{Answered, readingAs, answer}
 use Rattle.makrothel.specs.Demand2.{table-is, demand-2-solved}
-use Rattle.listing.specs.Report.{mostRead, listingBudget, listingOutput, answerText, reportText}
+use Rattle.listing.specs.Report.{listingBudget, listingOutput, answerText, reportText}
 
-pub answer-first : (s : List ℕ) (b : ℕ) (out : List ℕ) → answer (take mostRead s) b out ≡ answer s b out
+pub answer-first : (s : List ℕ) (b : ℕ) (out : List ℕ) → answer (take enoughLength s) b out ≡ answer s b out
 unfolding answer
 answer-first s b out = ap (λ (r : Reading). readingAs r b out) (first-bytes s)
 
-pub longer-input : (s : List ℕ) → reportText (take mostRead s) ≡ reportText s
+pub longer-input : (s : List ℕ) → reportText (take enoughLength s) ≡ reportText s
 unfolding reportText answerText listingText tableOf
 longer-input s =
-    ap (λ (r : Reading). answerUnder (theTable r) (answer (take mostRead s) listingBudget listingOutput)) (first-bytes s)
+    ap (λ (r : Reading). answerUnder (theTable r) (answer (take enoughLength s) listingBudget listingOutput)) (first-bytes s)
     ∙ ap (answerUnder (theTable (reading s))) (answer-first s listingBudget listingOutput)
   where
     answerUnder : Table → Answered → List ℕ
-    answerUnder t a = firstLine (a .number) (a .count) (a .place) ++ underNumber (a .number) (solvedText t (a .output))
+    answerUnder t a = firstLine (handed (a .says)) ++ underNumber (handed (a .says) .number) (solvedText t (a .output))
 
 pub lines-same : (t : Table) (a b : ℕ → ℕ) (n : ℕ) → ((x : ℕ) → x < n → a x ≡ b x) → variableLines t a n ≡ variableLines t b n
 unfolding variableLines
@@ -68,10 +70,10 @@ module _ (t : Table) (fits : Fits t) (a : Assignment) (f : FirstSolving t a) whe
 
 -- THE ASSIGNMENT THAT WAS FOUND IS LISTED
 pub found-listed : (s : List ℕ) (t : Table) → IsTable s t → N t ≤ listingBudget → (a : Assignment) → FirstSolving t a
-    → reportText s ≡ firstLine 0 (N t) 0 ++ variableLines t (setOf a) (t .variables)
+    → reportText s ≡ firstLine (handed (Solved (N t))) ++ variableLines t (setOf a) (t .variables)
 unfolding IsTable reportText answerText listingText
 found-listed s t is l a f =
     let few : t .variables ≤ maxVariables = few-variables t (is .1) a f in
     ap (answerText s) (demand-2-solved s t is listingBudget listingOutput (omega arith) l a f)
-    ∙ ap (λ (u : Table). firstLine 0 (N t) 0 ++ solvedText u (written a listingOutput)) (sym (table-is s t is))
-    ∙ ap (λ (x : List ℕ). firstLine 0 (N t) 0 ++ x) (listed t (is .1) a f listingOutput (omega arith))
+    ∙ ap (λ (u : Table). firstLine (handed (Solved (N t))) ++ solvedText u (written a listingOutput)) (sym (table-is s t is))
+    ∙ ap (λ (x : List ℕ). firstLine (handed (Solved (N t))) ++ x) (listed t (is .1) a f listingOutput (omega arith))

@@ -10,7 +10,10 @@ use libc::STDIN_FILENO;
 use libc::STDOUT_FILENO;
 
 // One byte more than the longest readable table has, so that a longer input is answered as a longer one.
-const MOST: usize = 699;
+const MOST: usize = table::HEADER
+    + 2 * bounds::MAX_ATOMS
+    + bounds::MAX_LINES * (bounds::MAX_LEFT + 2)
+    + 1;
 
 const BUDGET: Count = 1000000;
 
@@ -25,7 +28,7 @@ fn report(table: &[u8], buffer: &mut [u8]) -> usize
 {
     let mut output = [0u8; OUTPUT];
     let a = makrothel::solve(table, BUDGET, &mut output);
-    text::listing(table, a.number, a.count, a.place, &output, buffer)
+    text::listing(table, a, &output, buffer)
 }
 
 fn main() {

@@ -22,62 +22,62 @@ use borrow.Author.Tests.{lt-ltb, le-ltb}
 use denote.Ref.{RefT, now}
 use Rattle.bounds.specs.Bounds.{setBytes}
 use Rattle.el.specs.Table.{roleOrder}
+use Rattle.answer.specs.declared.Answer.{Answer}
+use Rattle.answer.specs.declared.Answer.the-variants.{Solved, OutputShort, Nothing, Budget}
+use Rattle.table.specs.declared.Header.{Header}
 use Rattle.table.specs.declared.Verdict.the-variants.{Refused, Readable}
 use Rattle.el.specs.Walk.{outcome}
-use Rattle.table.specs.Reading.{byteAt, Header, Reading, refusal, readable, reading, theTable, isReadable, tableOf, headerOf}
+use Rattle.table.specs.Reading.{byteAt, headerLength, Reading, refusal, readable, reading, theTable, isReadable, tableOf, headerOf}
 use Rattle.table.specs.Bytes.{IsTable}
 use Rattle.table.specs.Step.{verdictOf}
 use Rattle.table.specs.Layout.{lineStart}
 use Rattle.table.specs.LayoutLaws.{layout, readable-header, refused-readable, readable-is, line-inside}
 use Rattle.node.specs.Node.{nodeOf}
 use Rattle.walk.specs.declared.End.{End}
-use Rattle.walk.specs.declared.End.the-variants.{Found, Nothing, Spent}
+use Rattle.walk.specs.declared.End.the-variants.{Found, Spent}
+use Rattle.walk.specs.declared.End.the-variants as End
 use Rattle.walk.specs.declared.Walked.{Walked}
 use Rattle.walk.specs.Step as step
 use Rattle.output.specs.Written.{written}
-use Rattle.makrothel.specs.Answer.{readAnswer, hasLine, linePart, lineBegin}
-use Rattle.makrothel.specs.Solve.{Answered, refusedAs, outcomeAs, readingAs, answer}
+use Rattle.makrothel.specs.Answer.{readAs, zeros, readAnswer, hasLine, linePart, lineBegin}
+use Rattle.makrothel.specs.Solve.{answered, outcomeAs, readingAs, answer}
 use Rattle.makrothel.specs.Demand2.{answer-outcome}
 use Rattle.makrothel.specs.Demand1.{is-table, answer-short}
 
 module _ (s : List ℕ) where
-  pub header-there : verdictOf (reading s) ≡ Readable → 10 ≤ length s
+  pub header-there : verdictOf (reading s) ≡ Readable → headerLength ≤ length s
   header-there q = layout s (readable-is s q) .header-in
 
-  pub read-refused : (n p : ℕ) → verdictOf (reading s) ≡ Refused n p
-      → record { number = n; place = p; constants = 0; roles = 0; variables = 0; restrictions = 0; lines = 0 } ≡ readAnswer (reading s)
-  unfolding verdictOf readAnswer
-  read-refused n p q = go (reading s) q
+  refused-is : (why : Answer) → verdictOf (reading s) ≡ Refused why → reading s ≡ refusal why
+  unfolding verdictOf
+  refused-is why q = go (reading s) q
     where
-      go : (x : Reading) → verdictOf x ≡ Refused n p → record { number = n; place = p; constants = 0; roles = 0; variables = 0; restrictions = 0; lines = 0 } ≡ readAnswer x
-      go (refusal m k) q = (let a : n ≡ m = cc in let b : p ≡ k = cc in rw (a, b))
-      go (readable h t) q = absurd (refused-readable n p (sym q))
+      go : (x : Reading) → verdictOf x ≡ Refused why → x ≡ refusal why
+      go (refusal n) q = cc
+      go (readable h t) q = absurd (refused-readable why (sym q))
 
-  pub read-readable : (c r v e m : ℕ) → c ≡ headerOf s .c → r ≡ headerOf s .r → v ≡ headerOf s .v → e ≡ headerOf s .e → m ≡ headerOf s .m → verdictOf (reading s) ≡ Readable
-      → record { number = 0; place = 0; constants = c; roles = r; variables = v; restrictions = e; lines = m } ≡ readAnswer (reading s)
+  pub read-refused : (why : Answer) → verdictOf (reading s) ≡ Refused why → readAs why zeros ≡ readAnswer (reading s)
+  unfolding readAnswer
+  read-refused why q = sym (ap readAnswer (refused-is why q))
+
+  pub read-readable : (h : Header) → h ≡ headerOf s → verdictOf (reading s) ≡ Readable → readAs (Solved 0) h ≡ readAnswer (reading s)
   unfolding verdictOf readAnswer
-  read-readable c r v e m c= r= v= e= m= q = rw (c=, r=, v=, e=, m=) (go (reading s) refl q)
+  read-readable h p q = ap (readAs (Solved 0)) p ∙ go (reading s) refl q
     where
-      go : (x : Reading) → reading s ≡ x → verdictOf x ≡ Readable
-          → record { number = 0; place = 0; constants = headerOf s .c; roles = headerOf s .r; variables = headerOf s .v; restrictions = headerOf s .e; lines = headerOf s .m } ≡ readAnswer x
-      go (refusal n p) e q = absurd (refused-readable n p q)
-      go (readable h t) e q = ap (λ (x : Header). readAnswer (readable x t)) (sym (readable-header s h t e .0))
+      go : (x : Reading) → reading s ≡ x → verdictOf x ≡ Readable → readAs (Solved 0) (headerOf s) ≡ readAnswer x
+      go (refusal why) e q = absurd (refused-readable why q)
+      go (readable h t) e q = ap (readAs (Solved 0)) (sym (readable-header s h t e .0))
 
   -- the part of line k, and where it begins
-  abbrev pub IsLine : ℕ → List ℕ → ℕ → Type 0
+  abbrev IsLine : ℕ → List ℕ → ℕ → Type 0
   IsLine k part at = (part ≡ linePart s k) × (at ≡ lineBegin s k)
 
   by-test : (k : ℕ) (b : Bool) → hasLine s k ≡ b → IsLine k (cond b (take (byteAt s (lineStart s k) + 2) (drop (lineStart s k) s)) []) (cond b (lineStart s k) 0)
   unfolding linePart lineBegin
   by-test k b e = rw (sym e) (refl, refl)
 
-  pub line-refused : (k n p : ℕ) → verdictOf (reading s) ≡ Refused n p → IsLine k [] 0
-  unfolding verdictOf
-  line-refused k n p q = by-test k false (unfold hasLine in go (reading s) q)
-    where
-      go : (x : Reading) → verdictOf x ≡ Refused n p → isReadable x && ltb k (headerOf s .m) ≡ false
-      go (refusal m i) q = refl
-      go (readable h t) q = absurd (refused-readable n p (sym q))
+  pub line-refused : (k : ℕ) (why : Answer) → verdictOf (reading s) ≡ Refused why → IsLine k [] 0
+  line-refused k why q = by-test k false (unfold hasLine in ap (λ (x : Reading). isReadable x && ltb k (headerOf s .m)) (refused-is why q))
 
   module _ (ok : verdictOf (reading s) ≡ Readable) (k : ℕ) where
     tested : (b : Bool) → ltb k (headerOf s .m) ≡ b → hasLine s k ≡ b
@@ -88,8 +88,8 @@ module _ (s : List ℕ) where
         go true t = e
         go false t = absurd t
 
-    pub line-over : (m : ℕ) → m ≡ headerOf s .m → m ≤ k → IsLine k [] 0
-    line-over m e h = by-test k false (tested false (le-ltb k (headerOf s .m) (omega arith)))
+    pub line-over : (h : Header) → h ≡ headerOf s → h .m ≤ k → IsLine k [] 0
+    line-over h e l = by-test k false (tested false (le-ltb k (headerOf s .m) (omega (arith, ap (λ (x : Header). x .m) e))))
 
     pub line-room : (at : ℕ) → k < headerOf s .m → at ≡ lineStart s k → at + byteAt s at + 2 ≤ length s
     line-room at h a = line-inside s (readable-is s ok) k at h a
@@ -116,43 +116,41 @@ module _ (w : Walked) (out : List ℕ) where
   ended e q = ap (λ (x : End). outcomeAs (step.outcomeAs x (w .count) (nodeOf (w .sets))) out) (sym q)
 
   pub finish-found : (after : List ℕ) → w .end ≡ Found → after ≡ written (take (w .sets .chosen) (w .sets .set)) out
-      → _≡_ {A = Answered} (record { number = 0; count = w .count; place = 0; output = after }) (outcomeAs (step.outcomeOf w) out)
+      → answered (Solved (w .count)) after ≡ outcomeAs (step.outcomeOf w) out
   unfolding nodeOf
-  finish-found after q h = ap (λ (o : List ℕ). record { number = 0; count = w .count; place = 0; output = o }) h ∙ ended Found q
+  finish-found after q h = ap (answered (Solved (w .count))) h ∙ ended Found q
 
-  pub finish-nothing : w .end ≡ Nothing → _≡_ {A = Answered} (record { number = 8; count = w .count; place = 0; output = out }) (outcomeAs (step.outcomeOf w) out)
-  finish-nothing q = ended Nothing q
+  pub finish-nothing : w .end ≡ End.Nothing → answered (Nothing (w .count)) out ≡ outcomeAs (step.outcomeOf w) out
+  finish-nothing q = ended End.Nothing q
 
-  pub finish-spent : w .end ≡ Spent → _≡_ {A = Answered} (record { number = 9; count = w .count; place = 0; output = out }) (outcomeAs (step.outcomeOf w) out)
+  pub finish-spent : w .end ≡ Spent → answered (Budget (w .count)) out ≡ outcomeAs (step.outcomeOf w) out
   finish-spent q = ended Spent q
 
 ----------------------------------------------------------------------------------------------------
 -- The solver
 
 module _ (s : List ℕ) (b : ℕ) (out : List ℕ) where
-  pub solve-refused : (n p : ℕ) → verdictOf (reading s) ≡ Refused n p → refusedAs n p out ≡ answer s b out
-  unfolding answer verdictOf
-  solve-refused n p q = go (reading s) q
-    where
-      go : (x : Reading) → verdictOf x ≡ Refused n p → refusedAs n p out ≡ readingAs x b out
-      go (refusal m r) e = let h : m ≡ n = cc in let k : r ≡ p = cc in sym (ap (λ (i : ℕ). refusedAs i r out) h ∙ ap (λ (i : ℕ). refusedAs n i out) k)
-      go (readable h t) e = absurd (refused-readable n p (sym e))
+  pub solve-refused : (why : Answer) → verdictOf (reading s) ≡ Refused why → answered why out ≡ answer s b out
+  unfolding answer
+  solve-refused why q = sym (ap (λ (x : Reading). readingAs x b out) (refused-is s why q))
 
   the-table : verdictOf (reading s) ≡ Readable → IsTable s (tableOf s)
   unfolding tableOf
   the-table q = go (reading s) refl (readable-is s q)
     where
       go : (x : Reading) → reading s ≡ x → T (isReadable x) → IsTable s (theTable x)
-      go (refusal n p) e ok = absurd ok
+      go (refusal why) e ok = absurd ok
       go (readable h t) e ok = is-table s h t e
 
   variables : verdictOf (reading s) ≡ Readable → tableOf s .variables ≡ headerOf s .v
   variables q = layout s (readable-is s q) .variables
 
-  pub solve-short : (v : ℕ) → v ≡ headerOf s .v → verdictOf (reading s) ≡ Readable → length out < setBytes * v → refusedAs 7 (setBytes * v) out ≡ answer s b out
-  solve-short v e q l =
-      let h : tableOf s .variables ≡ v = variables q ∙ sym e in
-      sym (answer-short s b out (tableOf s) (the-table q) (omega arith) ∙ ap (λ (k : ℕ). refusedAs 7 (setBytes * k) out) h)
+  pub solve-short : (h : Header) (v : ℕ) → h ≡ headerOf s → v ≡ h .v → verdictOf (reading s) ≡ Readable → length out < setBytes * v → answered (OutputShort (setBytes * v)) out ≡ answer s b out
+  solve-short h v e w q l =
+      let i : tableOf s .variables ≡ v = variables q ∙ sym (w ∙ ap (λ (x : Header). x .v) e) in
+      sym (answer-short s b out (tableOf s) (the-table q) (omega arith) ∙ ap (λ (k : ℕ). answered (OutputShort (setBytes * k)) out) i)
 
-  pub solve-walked : (v : ℕ) → v ≡ headerOf s .v → verdictOf (reading s) ≡ Readable → setBytes * v ≤ length out → outcomeAs (outcome (roleOrder (tableOf s)) (tableOf s) b) out ≡ answer s b out
-  solve-walked v e q l = let h : tableOf s .variables ≡ v = variables q ∙ sym e in sym (answer-outcome s (tableOf s) (the-table q) b out (omega arith))
+  pub solve-walked : (h : Header) (v : ℕ) → h ≡ headerOf s → v ≡ h .v → verdictOf (reading s) ≡ Readable → setBytes * v ≤ length out → outcomeAs (outcome (roleOrder (tableOf s)) (tableOf s) b) out ≡ answer s b out
+  solve-walked h v e w q l =
+      let i : tableOf s .variables ≡ v = variables q ∙ sym (w ∙ ap (λ (x : Header). x .v) e) in
+      sym (answer-outcome s (tableOf s) (the-table q) b out (omega arith))

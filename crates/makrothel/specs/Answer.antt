@@ -1,5 +1,6 @@
 -- What the public calls answer.
 --
+--   readAs a h   == what the reader hands back under the answer a and the counts h
 --   readAnswer r == the reader's number, place and five counts for a reading
 --   hasLine s n  == are the bytes s readable, and is there a line n?
 --   linePart s n == line n of the bytes s, from its left count to its right code, or nothing
@@ -12,14 +13,25 @@ use Prim.Native.Nat.{ℕ, _+_}
 use lib.Dec.{ltb}
 use lib.ListN.{take, drop}
 use denote.Ref.{RefT}
+use Rattle.answer.specs.declared.Answer.{Answer}
+use Rattle.answer.specs.declared.Answer.the-variants.{Solved}
+use Rattle.answer.specs.Handed.{handed}
+use Rattle.table.specs.declared.Header.{Header}
 use Rattle.table.specs.Reading.{byteAt, Reading, refusal, readable, reading, isReadable, headerOf}
 use Rattle.table.specs.Layout.{lineStart}
 use Rattle.makrothel.specs.declared.ReadAnswer.{ReadAnswer}
 
+-- a number and a place of the table of answers, and five counts
+abbrev pub readAs : Answer → Header → ReadAnswer
+readAs a h = record { number = handed a .number; place = handed a .place; constants = h .c; roles = h .r; variables = h .v; restrictions = h .e; lines = h .m }
+
+abbrev pub zeros : Header
+zeros = record { c = 0; r = 0; v = 0; e = 0; m = 0 }
+
 -- "The reader answers 0 to 6 with the same places, and the five counts (zeros when refused)."
 unfoldable pub readAnswer : Reading → ReadAnswer
-readAnswer (refusal n p) = record { number = n; place = p; constants = 0; roles = 0; variables = 0; restrictions = 0; lines = 0 }
-readAnswer (readable h t) = record { number = 0; place = 0; constants = h .c; roles = h .r; variables = h .v; restrictions = h .e; lines = h .m }
+readAnswer (refusal why) = readAs why zeros
+readAnswer (readable h t) = readAs (Solved 0) h
 
 unfoldable pub hasLine : List ℕ → ℕ → Bool
 hasLine s n = isReadable (reading s) && ltb n (headerOf s .m)

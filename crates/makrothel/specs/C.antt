@@ -9,11 +9,11 @@ use mathlib.Core.Bool.{cond}
 use mathlib.Core.List.{List, [], _∷_}
 use Prim.Native.Nat.{ℕ, _+_}
 use lib.ListN.{take, drop, getD}
+use Rattle.answer.specs.declared.Handed.{Handed}
 use Rattle.table.specs.Reading.{byteAt}
 use Rattle.table.specs.Layout.{lineStart}
 use Rattle.makrothel.specs.declared.ReadAnswer.{ReadAnswer}
 use Rattle.makrothel.specs.Answer.{hasLine}
-use Rattle.makrothel.specs.Solve.{Answered}
 
 unfoldable pub placeAndCounts : ReadAnswer → List ℕ
 placeAndCounts a = a .place ∷ a .constants ∷ a .roles ∷ a .variables ∷ a .restrictions ∷ a .lines ∷ []
@@ -28,5 +28,5 @@ lineSpan s n = cond (hasLine s n) (lineStart s n ∷ (byteAt s (lineStart s n) +
 unfoldable pub spanned : List ℕ → List ℕ → List ℕ
 spanned x s = take (getD x 1 0) (drop (getD x 0 0) s)
 
-unfoldable pub countAndPlace : Answered → List ℕ
+unfoldable pub countAndPlace : Handed → List ℕ
 countAndPlace a = a .count ∷ a .place ∷ []

@@ -6,6 +6,7 @@
 use mathlib.Core.Path.{_≡_, sym, _∙_}
 use mathlib.Core.List.{List}
 use Prim.Native.Nat.{ℕ}
+use Rattle.answer.specs.Handed.{handed}
 use Rattle.table.specs.Reading.{reading}
 use Rattle.makrothel.specs.Answer.{readAnswer}
 use Rattle.makrothel.specs.Solve.{answer}
@@ -21,7 +22,7 @@ pub c-line-unique : (s : List ℕ) (n a b : ℕ) (x y : List ℕ)
 c-line-unique s n a b x y p q e f = (p ∙ sym e, q ∙ sym f)
 
 pub c-solve-unique : (s : List ℕ) (budget : ℕ) (out : List ℕ) (a b : ℕ) (x y after later : List ℕ)
-    → a ≡ answer s budget out .number → x ≡ countAndPlace (answer s budget out) → after ≡ answer s budget out .output
-    → b ≡ answer s budget out .number → y ≡ countAndPlace (answer s budget out) → later ≡ answer s budget out .output
+    → a ≡ handed (answer s budget out .says) .number → x ≡ countAndPlace (handed (answer s budget out .says)) → after ≡ answer s budget out .output
+    → b ≡ handed (answer s budget out .says) .number → y ≡ countAndPlace (handed (answer s budget out .says)) → later ≡ answer s budget out .output
     → (a ≡ b) × (x ≡ y) × (after ≡ later)
 c-solve-unique s budget out a b x y after later p q g e f h = (p ∙ sym e, q ∙ sym f, g ∙ sym h)

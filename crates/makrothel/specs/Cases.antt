@@ -4,7 +4,8 @@
 --   Under g b   == the budget b is one of g
 --   Case        == a table's bytes, budgets, how many variables it has, and what is answered: number, count and sets
 --   cases       == P1 to P12
---   Answers k   == for every such budget and every output with room the answer is that number, that count, place 0, and those sets written
+--   Is k out r  == the answer r has the case's number and count, place 0, and its sets written to `out`
+--   Answers k   == for every such budget and every output with room the answer is so
 --   cases-hold  == every case answers so
 use mathlib.Core.Path.{_≡_, refl, sym, ap, subst, _∙_}
 use mathlib.Core.List.{List, [], _∷_, _++_}
@@ -20,12 +21,13 @@ use Rattle.el.specs.Meaning.{holds}
 use Rattle.el.specs.Assignment.{setOf, depends, path, reaches, acyclic, atomUnder, conjoin, setUnder, inducedTo, induced}
 use Rattle.el.specs.Walk.{chosen, lineVariables, settled, ready, fails, dead, full, ends, inTurn, treeOf, nodes, upToFirst, firstOf, examined, count, Outcome, solved, nothing, budget, outcome}
 use Rattle.el.specs.OutcomeLaws.{more-budget}
+use Rattle.answer.specs.Handed.{handed}
 use Rattle.table.specs.Code.{kindOf, within, fillerOfKind, fillerOf, entryOfKind, entryOf}
-use Rattle.table.specs.Reading.{marked, versionOne, readHeader, readMany, readRow, readEntry, readLine, readBody, readable, headerOf, reading, tableOf}
+use Rattle.table.specs.Reading.{marked, versionOne, readCounts, readHeader, readMany, readRow, readEntry, readLine, readBody, readable, headerOf, reading, tableOf}
 use Rattle.table.specs.Bytes.{IsTable}
 use Rattle.output.specs.Written.{littleEndian, assignmentBytes, written}
 use Rattle.makrothel.specs.Numbers.{N}
-use Rattle.makrothel.specs.Solve.{outcomeAs, answer}
+use Rattle.makrothel.specs.Solve.{Answered, outcomeAs, answer}
 use Rattle.makrothel.specs.Demand1.{is-table}
 use Rattle.makrothel.specs.Demand2.{known, answer-outcome}
 
@@ -123,10 +125,14 @@ p12 =
 abbrev pub cases : List Case
 cases = p1 ∷ p2 ∷ p3 ∷ p4 ∷ p5 ∷ p6 ∷ p7 ∷ p8 ∷ p9 ∷ p10 ∷ p11 ∷ p12 ∷ []
 
+-- an answer with that number, that count, place 0 and those sets
+abbrev pub Is : Case → List ℕ → Answered → Type 0
+Is k out r = (handed (r .says) ≡ record { number = k .number; count = k .count; place = 0 }) × (r .output ≡ written (k .sets) out)
+
 unfoldable pub Answers : Case → Type 0
 Answers k =
     (b : ℕ) → Under (k .budgets) b → (out : List ℕ) → setBytes * k .variables ≤ length out
-    → answer (k .bytes) b out ≡ record { number = k .number; count = k .count; place = 0; output = written (k .sets) out }
+    → Is k out (answer (k .bytes) b out)
 
 abbrev pub Every : (Case → Type 0) → List Case → Type 0
 Every P [] = Unit {0}
@@ -141,7 +147,7 @@ abbrev Computes : Case → Type 0
 Computes k =
     (o : Outcome) × (reading (k .bytes) ≡ readable (headerOf (k .bytes)) (tableOf (k .bytes))) × (tableOf (k .bytes) .variables ≡ k .variables)
     × Comes (k .budgets) (tableOf (k .bytes)) o
-    × ((out : List ℕ) → outcomeAs o out ≡ record { number = k .number; count = k .count; place = 0; output = written (k .sets) out })
+    × ((out : List ℕ) → Is k out (outcomeAs o out))
 
 comes : (t : Table) → T (declared t) → (g : Budget) (b : ℕ) (o : Outcome) → Under g b → Comes g t o → outcome (roleOrder t) t b ≡ o
 comes t d (atLeast n) b o u c = let e : N t ≡ n = c .0 in more-budget (roleOrder t) t d n b (omega arith) u ∙ c .1
@@ -151,17 +157,17 @@ answers : (k : Case) → Computes k → Answers k
 unfolding Answers
 answers k c b u out room =
     let is : IsTable (k .bytes) (tableOf (k .bytes)) = is-table (k .bytes) (headerOf (k .bytes)) (tableOf (k .bytes)) (c .1) in
-    answer-outcome (k .bytes) (tableOf (k .bytes)) is b out (subst (λ (v : ℕ). setBytes * v ≤ length out) (sym (c .2)) room)
-    ∙ ap (λ (o : Outcome). outcomeAs o out) (comes (tableOf (k .bytes)) (known (k .bytes) (tableOf (k .bytes)) is) (k .budgets) b (c .0) u (c .3))
-    ∙ c .4 out
+    subst (Is k out) (sym (answer-outcome (k .bytes) (tableOf (k .bytes)) is b out (subst (λ (v : ℕ). setBytes * v ≤ length out) (sym (c .2)) room)
+    ∙ ap (λ (o : Outcome). outcomeAs o out) (comes (tableOf (k .bytes)) (known (k .bytes) (tableOf (k .bytes)) is) (k .budgets) b (c .0) u (c .3))))
+    (c .4 out)
 
 every : (ks : List Case) → Every Computes ks → Every Answers ks
 every [] c = tt
 every (k ∷ ks) c = (answers k (c .0), every ks (c .1))
 
 computed : Every Computes cases
-unfolding written assignmentBytes littleEndian outcome count examined firstOf upToFirst nodes treeOf inTurn ends full dead fails ready settled lineVariables chosen induced inducedTo setUnder conjoin atomUnder acyclic reaches path depends setOf holds rowAt atoms anyBelow allBelow anyOf everyOf bit sameRole tableOf reading readBody readLine readEntry readRow readMany readHeader versionOne marked entryOf entryOfKind fillerOf fillerOfKind within kindOf
-computed = ((solved 1 [], refl, refl, (refl, refl), λ out. refl), ((nothing 1, refl, refl, (refl, refl), λ out. refl), ((solved 3 (1 ∷ []), refl, refl, (refl, refl), λ out. refl), ((solved 2 (0 ∷ []), refl, refl, (refl, refl), λ out. refl), ((nothing 3, refl, refl, (refl, refl), λ out. refl), ((solved 3 (1 ∷ []), refl, refl, (refl, refl), λ out. refl), ((solved 5 (3 ∷ []), refl, refl, (refl, refl), λ out. refl), ((solved 14 (2 ∷ 1 ∷ []), refl, refl, (refl, refl), λ out. refl), ((budget 13, refl, refl, refl, λ out. refl), ((nothing 1, refl, refl, (refl, refl), λ out. refl), ((solved 1 [], refl, refl, (refl, refl), λ out. refl), ((nothing 33, refl, refl, (refl, refl), λ out. refl), tt))))))))))))
+unfolding written assignmentBytes littleEndian outcome count examined firstOf upToFirst nodes treeOf inTurn ends full dead fails ready settled lineVariables chosen induced inducedTo setUnder conjoin atomUnder acyclic reaches path depends setOf holds rowAt atoms anyBelow allBelow anyOf everyOf bit sameRole tableOf reading readBody readLine readEntry readRow readMany readHeader readCounts versionOne marked entryOf entryOfKind fillerOf fillerOfKind within kindOf
+computed = ((solved 1 [], refl, refl, (refl, refl), λ out. (refl, refl)), ((nothing 1, refl, refl, (refl, refl), λ out. (refl, refl)), ((solved 3 (1 ∷ []), refl, refl, (refl, refl), λ out. (refl, refl)), ((solved 2 (0 ∷ []), refl, refl, (refl, refl), λ out. (refl, refl)), ((nothing 3, refl, refl, (refl, refl), λ out. (refl, refl)), ((solved 3 (1 ∷ []), refl, refl, (refl, refl), λ out. (refl, refl)), ((solved 5 (3 ∷ []), refl, refl, (refl, refl), λ out. (refl, refl)), ((solved 14 (2 ∷ 1 ∷ []), refl, refl, (refl, refl), λ out. (refl, refl)), ((budget 13, refl, refl, refl, λ out. (refl, refl)), ((nothing 1, refl, refl, (refl, refl), λ out. (refl, refl)), ((solved 1 [], refl, refl, (refl, refl), λ out. (refl, refl)), ((nothing 33, refl, refl, (refl, refl), λ out. (refl, refl)), tt))))))))))))
 
 -- P1 TO P12
 pub cases-hold : Every Answers cases

@@ -4,12 +4,12 @@
 --   known            == a readable table declares all it names
 --   answer-outcome   == with room the answer is the outcome of the walk
 --   first-unique     == there is at most one first assignment that solves
---   demand-2-solved  == within the budget, the first assignment that solves is answered: number 0, count N, and its sets written
---   demand-2-none    == within the budget, where none solves: number 8, count N, and the output as it was
---   demand-2-budget  == beyond the budget b: number 9, count b, and the output as it was
---   demand-2-no-budget == so with budget 0 the answer is 9, count 0
+--   demand-2-solved  == within the budget, the first assignment that solves is answered: "solved", count N, and its sets written
+--   demand-2-none    == within the budget, where none solves: "none", count N, and the output as it was
+--   demand-2-budget  == beyond the budget b: "budget", count b, and the output as it was
+--   demand-2-no-budget == so with budget 0 the answer is "budget", count 0
 --   demand-2-decides == within the budget some assignment is the first that solves, or none solves
---   demand-2-solved-exactly, demand-2-none-exactly, demand-2-budget-exactly == so each number is given exactly then
+--   demand-2-solved-exactly, demand-2-none-exactly, demand-2-budget-exactly == so each is answered exactly then
 use mathlib.Core.Path.{_≡_, refl, sym, ap, subst, _∙_}
 use mathlib.Core.Logic.{_↔_, _⊎_, inl, inr}
 use mathlib.Core.List.{List}
@@ -27,13 +27,16 @@ use Rattle.el.specs.CountingLaws.{counting-order}
 use Rattle.el.specs.CountLaws.{count-some}
 use Rattle.el.specs.LocalityLaws.{solves-means}
 use Rattle.el.specs.OutcomeLaws.{OutcomeSays, outcome-says, outcome-beyond}
+use Rattle.answer.specs.declared.Answer.{Answer}
+use Rattle.answer.specs.declared.Answer.the-variants.{Solved, Nothing, Budget}
+use Rattle.answer.specs.Handed.{handed}
 use Rattle.table.specs.Reading.{Reading, theTable, tableOf, isReadable}
 use Rattle.table.specs.Bytes.{IsTable}
 use Rattle.table.specs.BytesLaws.{table-read}
 use Rattle.table.specs.LayoutLaws.{layout}
 use Rattle.output.specs.Written.{written}
-use Rattle.makrothel.specs.Numbers.{FirstSolving, NoneSolves, N}
-use Rattle.makrothel.specs.Solve.{Answered, outcomeAs, tableAs, readingAs, answer}
+use Rattle.makrothel.specs.Numbers.{FirstSolving, NoneSolves, N, Said}
+use Rattle.makrothel.specs.Solve.{Answered, answered, outcomeAs, tableAs, readingAs, answer}
 
 pub first-unique : (t : Table) (a b : Assignment) → FirstSolving t a → FirstSolving t b → a ≡ b
 unfolding FirstSolving
@@ -66,84 +69,76 @@ module _ (s : List ℕ) (t : Table) (is : IsTable s t) (b : ℕ) (out : List ℕ
   answer-outcome = ap (λ (r : Reading). readingAs r b out) (table-read s t is) ∙ rw (le-ltb (length out) (setBytes * t .variables) room, tableAs)
 
   -- BUDGET
-  pub demand-2-budget : b < N t → answer s b out ≡ record { number = 9; count = b; place = 0; output = out }
+  pub demand-2-budget : b < N t → answer s b out ≡ answered (Budget b) out
   demand-2-budget over = answer-outcome ∙ ap (λ (o : Outcome). outcomeAs o out) (outcome-beyond (roleOrder t) t (known s t is) b over)
 
   -- "any readable table with budget 0 and enough room gives 9, count 0"
-  pub demand-2-no-budget : b ≡ 0 → answer s b out ≡ record { number = 9; count = 0; place = 0; output = out }
-  demand-2-no-budget z =
-      let some : 0 < N t = count-some (roleOrder t) t in
-      demand-2-budget (omega arith) ∙ ap (λ (k : ℕ). record { number = 9; count = k; place = 0; output = out }) z
+  pub demand-2-no-budget : b ≡ 0 → answer s b out ≡ answered (Budget 0) out
+  demand-2-no-budget z = let some : 0 < N t = count-some (roleOrder t) t in demand-2-budget (omega arith) ∙ ap (λ (k : ℕ). answered (Budget k) out) z
 
   -- the two answers within the budget
-  abbrev pub Found : Type 0
-  Found = (a : Assignment) × FirstSolving t a × (answer s b out ≡ record { number = 0; count = N t; place = 0; output = written a out })
+  abbrev Within : Type 0
+  Within = ((a : Assignment) × FirstSolving t a × (answer s b out ≡ answered (Solved (N t)) (written a out))) ⊎ (NoneSolves t × (answer s b out ≡ answered (Nothing (N t)) out))
 
-  abbrev pub None : Type 0
-  None = NoneSolves t × (answer s b out ≡ record { number = 8; count = N t; place = 0; output = out })
-
-  pub within : N t ≤ b → Found ⊎ None
+  within : N t ≤ b → Within
   within l = go (outcome (roleOrder t) t b) (outcome-says (roleOrder t) t (known s t is) b) answer-outcome
     where
       bool : (m : Assignment) → Solves (roleOrder t) t m → T (solves (roleOrder t) t m)
       bool m = solves-means (roleOrder t) t (known s t is) m .1
 
-      go : (o : Outcome) → OutcomeSays (roleOrder t) t (known s t is) b o → answer s b out ≡ outcomeAs o out → Found ⊎ None
+      go : (o : Outcome) → OutcomeSays (roleOrder t) t (known s t is) b o → answer s b out ≡ outcomeAs o out → Within
       go (solved n a) w e =
           inl (
             a,
             (unfold FirstSolving in (w .2 .0, solves-means (roleOrder t) t (known s t is) a .0 (w .2 .1), λ m i g l. w .2 .2 m i (bool m g) l)),
-            e ∙ ap (λ (k : ℕ). record { number = 0; count = k; place = 0; output = written a out }) (w .0),
+            e ∙ ap (λ (k : ℕ). answered (Solved k) (written a out)) (w .0),
           )
-      go (nothing n) w e =
-          inr ((unfold NoneSolves in λ m i g. w .2 m i (bool m g)), e ∙ ap (λ (k : ℕ). record { number = 8; count = k; place = 0; output = out }) (w .0))
+      go (nothing n) w e = inr ((unfold NoneSolves in λ m i g. w .2 m i (bool m g)), e ∙ ap (λ (k : ℕ). answered (Nothing k) out) (w .0))
       go (budget n) w e = absurd (let z : b < N t = w .1 in let y : ⊥ = omega arith in y)
 
   -- SOLVED
-  pub demand-2-solved : N t ≤ b → (a : Assignment) → FirstSolving t a → answer s b out ≡ record { number = 0; count = N t; place = 0; output = written a out }
-  demand-2-solved l a f = go (within l)
-    where
-      go : Found ⊎ None → answer s b out ≡ record { number = 0; count = N t; place = 0; output = written a out }
-      go (inl w) = w .2 ∙ ap (λ (x : Assignment). record { number = 0; count = N t; place = 0; output = written x out }) (first-unique t (w .0) a (w .1) f)
-      go (inr w) = absurd (first-none t a f (w .0))
+  pub demand-2-solved : N t ≤ b → (a : Assignment) → FirstSolving t a → answer s b out ≡ answered (Solved (N t)) (written a out)
+  demand-2-solved l a f = elim (within l) [
+    | inl w ↦ w .2 ∙ ap (λ (x : Assignment). answered (Solved (N t)) (written x out)) (first-unique t (w .0) a (w .1) f)
+    | inr w ↦ absurd (first-none t a f (w .0))
+  ]
 
   -- NONE
-  pub demand-2-none : N t ≤ b → NoneSolves t → answer s b out ≡ record { number = 8; count = N t; place = 0; output = out }
-  demand-2-none l n = go (within l)
-    where
-      go : Found ⊎ None → answer s b out ≡ record { number = 8; count = N t; place = 0; output = out }
-      go (inl w) = absurd (first-none t (w .0) (w .1) n)
-      go (inr w) = w .1
+  pub demand-2-none : N t ≤ b → NoneSolves t → answer s b out ≡ answered (Nothing (N t)) out
+  demand-2-none l n = elim (within l) [ inl w ↦ absurd (first-none t (w .0) (w .1) n) | inr w ↦ w .1 ]
 
   -- WITHIN THE BUDGET ONE OF THE TWO IS ANSWERED
-  pub demand-2-decides : N t ≤ b → ((answer s b out .number ≡ 0) × ((a : Assignment) × FirstSolving t a)) ⊎ ((answer s b out .number ≡ 8) × NoneSolves t)
-  demand-2-decides l = go (within l)
-    where
-      go : Found ⊎ None → ((answer s b out .number ≡ 0) × ((a : Assignment) × FirstSolving t a)) ⊎ ((answer s b out .number ≡ 8) × NoneSolves t)
-      go (inl w) = inl (ap (λ (x : Answered). x .number) (w .2), (w .0, w .1))
-      go (inr w) = inr (ap (λ (x : Answered). x .number) (w .1), w .0)
+  pub demand-2-decides : N t ≤ b
+      → ((answer s b out .says ≡ Solved (N t)) × ((a : Assignment) × FirstSolving t a)) ⊎ ((answer s b out .says ≡ Nothing (N t)) × NoneSolves t)
+  demand-2-decides l = elim (within l) [
+    | inl w ↦ inl (ap (λ (x : Answered). x .says) (w .2), (w .0, w .1))
+    | inr w ↦ inr (ap (λ (x : Answered). x .says) (w .1), w .0)
+  ]
 
-  -- of the three numbers two are never one
-  other : (m n : ℕ) (q : Answered) → answer s b out .number ≡ m → answer s b out ≡ q → q .number ≡ n → m ≡ n
-  other m n q g e f = sym g ∙ ap (λ (x : Answered). x .number) e ∙ f
+  -- of the three answers two are never one
+  apart : {a c : Answer} → answer s b out .says ≡ a → answer s b out .says ≡ c → (handed a .number ≡ handed c .number → ⊥) → ⊥
+  apart p q f = f (ap (λ (x : Answer). handed x .number) (sym p ∙ q))
 
-  pub demand-2-budget-exactly : (answer s b out .number ≡ 9) ↔ (b < N t)
-  demand-2-budget-exactly = ((λ g. go g (decLe (N t) b)), λ over. ap (λ (x : Answered). x .number) (demand-2-budget over))
+  beyond : b < N t → answer s b out .says ≡ Budget b
+  beyond over = ap (λ (x : Answered). x .says) (demand-2-budget over)
+
+  pub demand-2-budget-exactly : Said Budget (answer s b out .says) ↔ (b < N t)
+  demand-2-budget-exactly = ((λ g. go g (decLe (N t) b)), λ over. (b, beyond over))
     where
-      go : answer s b out .number ≡ 9 → Dec (N t ≤ b) → b < N t
+      go : Said Budget (answer s b out .says) → Dec (N t ≤ b) → b < N t
       go g (no l) = omega arith
-      go g (yes l) = elim (demand-2-decides l) [ inl w ↦ absurd (let z : _≡_ {A = ℕ} 9 0 = sym g ∙ w .0 in let y : ⊥ = omega arith in y) | inr w ↦ absurd (let z : _≡_ {A = ℕ} 9 8 = sym g ∙ w .0 in let y : ⊥ = omega arith in y) ]
+      go g (yes l) = elim (demand-2-decides l) [ inl w ↦ absurd (apart (g .1) (w .0) (λ z. omega arith)) | inr w ↦ absurd (apart (g .1) (w .0) (λ z. omega arith)) ]
 
-  pub demand-2-solved-exactly : (answer s b out .number ≡ 0) ↔ ((N t ≤ b) × ((a : Assignment) × FirstSolving t a))
-  demand-2-solved-exactly = ((λ g. go g (decLe (N t) b)), λ w. ap (λ (x : Answered). x .number) (demand-2-solved (w .0) (w .1 .0) (w .1 .1)))
+  pub demand-2-solved-exactly : Said Solved (answer s b out .says) ↔ ((N t ≤ b) × ((a : Assignment) × FirstSolving t a))
+  demand-2-solved-exactly = ((λ g. go g (decLe (N t) b)), λ w. (N t, ap (λ (x : Answered). x .says) (demand-2-solved (w .0) (w .1 .0) (w .1 .1))))
     where
-      go : answer s b out .number ≡ 0 → Dec (N t ≤ b) → (N t ≤ b) × ((a : Assignment) × FirstSolving t a)
-      go g (no l) = absurd (let z = other 0 9 _ g (demand-2-budget (omega arith)) refl in let y : ⊥ = omega arith in y)
-      go g (yes l) = elim (demand-2-decides l) [ inl w ↦ (l, w .1) | inr w ↦ absurd (let z : _≡_ {A = ℕ} 0 8 = sym g ∙ w .0 in let y : ⊥ = omega arith in y) ]
+      go : Said Solved (answer s b out .says) → Dec (N t ≤ b) → (N t ≤ b) × ((a : Assignment) × FirstSolving t a)
+      go g (no l) = absurd (apart (g .1) (beyond (omega arith)) (λ z. omega arith))
+      go g (yes l) = elim (demand-2-decides l) [ inl w ↦ (l, w .1) | inr w ↦ absurd (apart (g .1) (w .0) (λ z. omega arith)) ]
 
-  pub demand-2-none-exactly : (answer s b out .number ≡ 8) ↔ ((N t ≤ b) × NoneSolves t)
-  demand-2-none-exactly = ((λ g. go g (decLe (N t) b)), λ w. ap (λ (x : Answered). x .number) (demand-2-none (w .0) (w .1)))
+  pub demand-2-none-exactly : Said Nothing (answer s b out .says) ↔ ((N t ≤ b) × NoneSolves t)
+  demand-2-none-exactly = ((λ g. go g (decLe (N t) b)), λ w. (N t, ap (λ (x : Answered). x .says) (demand-2-none (w .0) (w .1))))
     where
-      go : answer s b out .number ≡ 8 → Dec (N t ≤ b) → (N t ≤ b) × NoneSolves t
-      go g (no l) = absurd (let z = other 8 9 _ g (demand-2-budget (omega arith)) refl in let y : ⊥ = omega arith in y)
-      go g (yes l) = elim (demand-2-decides l) [ inl w ↦ absurd (let z : _≡_ {A = ℕ} 8 0 = sym g ∙ w .0 in let y : ⊥ = omega arith in y) | inr w ↦ (l, w .1) ]
+      go : Said Nothing (answer s b out .says) → Dec (N t ≤ b) → (N t ≤ b) × NoneSolves t
+      go g (no l) = absurd (apart (g .1) (beyond (omega arith)) (λ z. omega arith))
+      go g (yes l) = elim (demand-2-decides l) [ inl w ↦ absurd (apart (g .1) (w .0) (λ z. omega arith)) | inr w ↦ (l, w .1) ]

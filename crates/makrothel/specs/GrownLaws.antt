@@ -15,7 +15,7 @@ use Rattle.el.specs.Growth.{Grows}
 use Rattle.table.specs.declared.Kind.{Kind}
 use Rattle.table.specs.declared.Kind.the-variants.{Top, Constant, Restriction, Variable, Other}
 use Rattle.table.specs.Code.{kindOf, fillerOfKind, fillerOf, entryOfKind, entryOf}
-use Rattle.table.specs.Reading.{byteAt, tableOf, headerOf}
+use Rattle.table.specs.Reading.{byteAt, headerOf, rowsAt, rowStart, fillerPlace, tableOf}
 use Rattle.table.specs.Layout.{lineAt, lineStart, Layout}
 use Rattle.table.specs.CodeLaws.{within-some}
 use Rattle.table.specs.LayoutLaws.{layout}
@@ -58,30 +58,27 @@ module _ (s u : List ℕ) (grown : Grown s u) where
   there : Layout u (tableOf u)
   there = layout u (grown .readable-after)
 
-  row-byte : (i : ℕ) → i < 2 * headerOf s .e → 10 + i < length s → byteAt u (10 + i) ≡ byteAt s (10 + i)
+  row-byte : (i : ℕ) → i < 2 * headerOf s .e → rowsAt s + i < length s → byteAt u (rowsAt u + i) ≡ byteAt s (rowsAt s + i)
   row-byte i h l =
       let wide : headerOf s .e ≤ headerOf u .e = grown .restrictions in
       let room : i < length (rowBytes s) = unfold rowBytes in simp (length-take, length-drop) (omega arith) in
       sym (in-rows u (omega arith)) ∙ ap (λ (x : List ℕ). getD x i 0) (grown .rows-first .1)
       ∙ List·getD-append (rowBytes s) (grown .rows-first .0) 0 i room ∙ in-rows s h
     where
-      in-rows : (x : List ℕ) → i < 2 * headerOf x .e → getD (rowBytes x) i 0 ≡ byteAt x (10 + i)
-      in-rows x k = unfold rowBytes in (getD-take (2 * headerOf x .e) (drop 10 x) i 0 k ∙ getD-drop 10 x i 0)
+      in-rows : (x : List ℕ) → i < 2 * headerOf x .e → getD (rowBytes x) i 0 ≡ byteAt x (rowsAt x + i)
+      in-rows x k = unfold rowBytes in (getD-take (2 * headerOf x .e) (drop (rowsAt x) x) i 0 k ∙ getD-drop (rowsAt x) x i 0)
 
   row-same : (k : ℕ) → k < headerOf s .e → rowAt (tableOf u .rows) k ≡ rowAt (tableOf s .rows) k
   row-same k h =
       let wide : headerOf s .e ≤ headerOf u .e = grown .restrictions in
-      let long : 11 + 2 * k < length s = here .row-in k h in
-      let first : byteAt u (10 + 2 * k) ≡ byteAt s (10 + 2 * k) = row-byte (2 * k) (omega arith) (omega arith) in
-      let second : byteAt u (11 + 2 * k) ≡ byteAt s (11 + 2 * k) = shift k (row-byte (1 + 2 * k) (omega arith) (omega arith)) in
+      let long : fillerPlace s k < length s = here .row-in k h in
+      let at : (x : List ℕ) → byteAt x (fillerPlace x k) ≡ byteAt x (rowsAt x + (1 + 2 * k)) = λ x. ap (byteAt x) (let z : fillerPlace x k ≡ rowsAt x + (1 + 2 * k) = omega arith in z) in
+      let same : byteAt u (fillerPlace u k) ≡ byteAt s (fillerPlace s k) = at u ∙ row-byte (1 + 2 * k) (omega arith) (omega arith) ∙ sym (at s) in
       ap₂ (λ (r : ℕ) (f : Filler). record { role = r; filler = f })
-      (there .row-role k (omega arith) ∙ first ∙ sym (here .row-role k h))
-      (filler-code (headerOf u .c) (headerOf u .v) (headerOf s .c) (headerOf s .v) (byteAt s (11 + 2 * k)) (rowAt (tableOf u .rows) k .filler) (rowAt (tableOf s .rows) k .filler)
-      (subst (λ (b : ℕ). fillerOf (headerOf u .c) (headerOf u .v) b ≡ some (rowAt (tableOf u .rows) k .filler)) second (there .row-filler k (omega arith)))
+      (there .row-role k (omega arith) ∙ row-byte (2 * k) (omega arith) (omega arith) ∙ sym (here .row-role k h))
+      (filler-code (headerOf u .c) (headerOf u .v) (headerOf s .c) (headerOf s .v) (byteAt s (fillerPlace s k)) (rowAt (tableOf u .rows) k .filler) (rowAt (tableOf s .rows) k .filler)
+      (subst (λ (b : ℕ). fillerOf (headerOf u .c) (headerOf u .v) b ≡ some (rowAt (tableOf u .rows) k .filler)) same (there .row-filler k (omega arith)))
       (here .row-filler k h))
-    where
-      shift : (k : ℕ) → byteAt u (10 + (1 + 2 * k)) ≡ byteAt s (10 + (1 + 2 * k)) → byteAt u (11 + 2 * k) ≡ byteAt s (11 + 2 * k)
-      shift k e = let q : 10 + (1 + 2 * k) ≡ 11 + 2 * k = omega arith in subst (λ (i : ℕ). byteAt u i ≡ byteAt s i) q e
 
   -- a list that agrees with another as far as that goes begins with it
   begins : {A : Type 0} (d : A) (l m : List A) → length l ≤ length m → ((i : ℕ) → i < length l → getD m i d ≡ getD l i d) → m ≡ l ++ drop (length l) m
@@ -96,22 +93,22 @@ module _ (s u : List ℕ) (grown : Grown s u) where
       begins (record { role = 0; filler = topF }) (tableOf s .rows) (tableOf u .rows) (omega arith) (λ i h. unfold rowAt in row-same i (omega arith))
 
   -- lines: where they begin, and their bytes
-  start-late : (n : ℕ) → 10 + 2 * headerOf s .e ≤ lineStart s n
+  start-late : (n : ℕ) → rowStart s (headerOf s .e) ≤ lineStart s n
   unfolding lineStart
   start-late zero = omega arith
-  start-late (suc n) = let h : 10 + 2 * headerOf s .e ≤ lineStart s n = start-late n in omega arith
+  start-late (suc n) = let h : rowStart s (headerOf s .e) ≤ lineStart s n = start-late n in omega arith
 
-  line-byte : (j k : ℕ) → 10 + 2 * headerOf s .e ≤ j → j < length s → k + 2 * headerOf s .e ≡ j + 2 * headerOf u .e → byteAt u k ≡ byteAt s j
-  line-byte j k l h e = at (j - (10 + 2 * headerOf s .e)) (omega arith) (omega arith)
+  line-byte : (j k : ℕ) → rowStart s (headerOf s .e) ≤ j → j < length s → k + 2 * headerOf s .e ≡ j + 2 * headerOf u .e → byteAt u k ≡ byteAt s j
+  line-byte j k l h e = at (j - (rowStart s (headerOf s .e))) (omega arith) (omega arith)
     where
-      at : (i : ℕ) → k ≡ 10 + 2 * headerOf u .e + i → j ≡ 10 + 2 * headerOf s .e + i → byteAt u k ≡ byteAt s j
+      at : (i : ℕ) → k ≡ rowStart u (headerOf u .e) + i → j ≡ rowStart s (headerOf s .e) + i → byteAt u k ≡ byteAt s j
       at i p q =
           let room : i < length (lineBytes s) = unfold lineBytes in simp length-drop (omega arith) in
           ap (byteAt u) p ∙ sym (in-lines u) ∙ ap (λ (x : List ℕ). getD x i 0) (grown .lines-first .1)
           ∙ List·getD-append (lineBytes s) (grown .lines-first .0) 0 i room ∙ in-lines s ∙ sym (ap (byteAt s) q)
         where
-          in-lines : (x : List ℕ) → getD (lineBytes x) i 0 ≡ byteAt x (10 + 2 * headerOf x .e + i)
-          in-lines x = unfold lineBytes in getD-drop (10 + 2 * headerOf x .e) x i 0
+          in-lines : (x : List ℕ) → getD (lineBytes x) i 0 ≡ byteAt x (rowStart x (headerOf x .e) + i)
+          in-lines x = unfold lineBytes in getD-drop (rowStart x (headerOf x .e)) x i 0
 
   start-same : (n : ℕ) → n ≤ headerOf s .m → lineStart u n + 2 * headerOf s .e ≡ lineStart s n + 2 * headerOf u .e
   unfolding lineStart
@@ -127,7 +124,7 @@ module _ (s u : List ℕ) (grown : Grown s u) where
       let more : headerOf s .m ≤ headerOf u .m = grown .lines in
       let e : lineStart u n + 2 * headerOf s .e ≡ lineStart s n + 2 * headerOf u .e = start-same n (omega arith) in
       let i : lineStart s n + byteAt s (lineStart s n) + 2 ≤ length s = here .line-in n h in
-      let low : 10 + 2 * headerOf s .e ≤ lineStart s n = start-late n in
+      let low : rowStart s (headerOf s .e) ≤ lineStart s n = start-late n in
       let p : byteAt u (lineStart u n) ≡ byteAt s (lineStart s n) = line-byte (lineStart s n) (lineStart u n) low (omega arith) e in
       let a : length (lineAt (tableOf s .lines) n .left) ≡ byteAt s (lineStart s n) = here .line-left n h in
       let b : length (lineAt (tableOf u .lines) n .left) ≡ byteAt u (lineStart u n) = there .line-left n (omega arith) in

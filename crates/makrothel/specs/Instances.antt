@@ -17,21 +17,25 @@ use Rattle.el.specs.Test.{everyOf}
 use Rattle.el.specs.Table.{Table, roleOrder}
 use Rattle.el.specs.Meaning.{Substitution, makes}
 use Rattle.el.specs.Assignment.{Assignment}
+use Rattle.answer.specs.declared.Answer.{Answer}
+use Rattle.answer.specs.declared.Answer.the-variants.{Solved, EndsEarly, BytesAfter, OutputShort, Nothing, Budget}
+use Rattle.answer.specs.Handed.{handed}
+use Rattle.answer.specs.HandedLaws.{handed-apart}
 use Rattle.table.specs.Code.{kindOf, within, fillerOfKind, fillerOf, entryOfKind, entryOf}
-use Rattle.table.specs.Reading.{marked, versionOne, readHeader, readMany, readRow, readEntry, readLine, readBody, refusal, readable, reading, headerOf, tableOf}
-use Rattle.table.specs.Bytes.{IsTable}
+use Rattle.table.specs.Reading.{marked, versionOne, readCounts, readHeader, readMany, readRow, readEntry, readLine, readBody, reading, headerOf, tableOf}
+use Rattle.table.specs.Bytes.{countsOf, IsTable}
 use Rattle.table.specs.Refusal.{RefusedAt, header-cut}
 use Rattle.table.specs.RefusalLaws.{refused-means}
 use Rattle.output.specs.Written.{littleEndian, assignmentBytes, written}
 use Rattle.makrothel.specs.declared.ReadAnswer.{ReadAnswer}
 use Rattle.makrothel.specs.Answer.{readAnswer}
-use Rattle.makrothel.specs.Numbers.{FirstSolving, NoneSolves, N, NumberAt, refused}
-use Rattle.makrothel.specs.Solve.{Answered, answer}
-use Rattle.makrothel.specs.Grown.{rowBytes, lineBytes, Grown, SameLines}
+use Rattle.makrothel.specs.Numbers.{FirstSolving, NoneSolves, N, NumberAt, refused, Said}
+use Rattle.makrothel.specs.Solve.{Answered, answered, answer}
+use Rattle.makrothel.specs.Grown.{rowBytes, lineBytes, Grown, SameLines, SameAnswer}
 use Rattle.makrothel.specs.Demand1.{is-table, demand-1-row, demand-1-only, demand-1-number, demand-1-refused, demand-1-short, demand-1-kept, demand-1-written, demand-1-read-refused, demand-1-read}
 use Rattle.makrothel.specs.Demand2.{demand-2-solved, demand-2-none, demand-2-budget, demand-2-no-budget, demand-2-decides, demand-2-solved-exactly, demand-2-none-exactly, demand-2-budget-exactly}
-use Rattle.makrothel.specs.Demand3.{SameAnswer, demand-3-none, demand-3-solved, demand-3-grown, demand-3-widened, demand-3-budget}
-use Rattle.makrothel.specs.Cases.{p5, p8, p12, Answers, cases-hold}
+use Rattle.makrothel.specs.Demand3.{demand-3-none, demand-3-solved, demand-3-grown, demand-3-widened, demand-3-budget}
+use Rattle.makrothel.specs.Cases.{Case, p5, p8, p9, p12, Is, Answers, cases-hold}
 
 -- an output of eight bytes has room for two variables
 abbrev eight : List ℕ
@@ -41,20 +45,20 @@ eight = 1 ∷ 2 ∷ 3 ∷ 4 ∷ 5 ∷ 6 ∷ 7 ∷ 8 ∷ []
 -- The cases are readable, and their answers
 
 pub p5-table : IsTable (p5 .bytes) (tableOf (p5 .bytes))
-unfolding tableOf reading readBody readLine readEntry readRow readMany readHeader versionOne marked entryOf entryOfKind fillerOf fillerOfKind within kindOf
+unfolding tableOf reading readBody readLine readEntry readRow readMany readHeader readCounts versionOne marked entryOf entryOfKind fillerOf fillerOfKind within kindOf
 p5-table = is-table (p5 .bytes) (headerOf (p5 .bytes)) (tableOf (p5 .bytes)) refl
 
 pub p8-table : IsTable (p8 .bytes) (tableOf (p8 .bytes))
-unfolding tableOf reading readBody readLine readEntry readRow readMany readHeader versionOne marked entryOf entryOfKind fillerOf fillerOfKind within kindOf
+unfolding tableOf reading readBody readLine readEntry readRow readMany readHeader readCounts versionOne marked entryOf entryOfKind fillerOf fillerOfKind within kindOf
 p8-table = is-table (p8 .bytes) (headerOf (p8 .bytes)) (tableOf (p8 .bytes)) refl
 
 pub p12-table : IsTable (p12 .bytes) (tableOf (p12 .bytes))
-unfolding tableOf reading readBody readLine readEntry readRow readMany readHeader versionOne marked entryOf entryOfKind fillerOf fillerOfKind within kindOf
+unfolding tableOf reading readBody readLine readEntry readRow readMany readHeader readCounts versionOne marked entryOf entryOfKind fillerOf fillerOfKind within kindOf
 p12-table = is-table (p12 .bytes) (headerOf (p12 .bytes)) (tableOf (p12 .bytes)) refl
 
 -- how many variables they have
 variables : (tableOf (p5 .bytes) .variables ≡ 1) × (tableOf (p8 .bytes) .variables ≡ 2) × (tableOf (p12 .bytes) .variables ≡ 1)
-unfolding tableOf reading readBody readLine readEntry readRow readMany readHeader versionOne marked entryOf entryOfKind fillerOf fillerOfKind within kindOf
+unfolding tableOf reading readBody readLine readEntry readRow readMany readHeader readCounts versionOne marked entryOf entryOfKind fillerOf fillerOfKind within kindOf
 variables = (refl, refl, refl)
 
 room-p5 : setBytes * tableOf (p5 .bytes) .variables ≤ length eight
@@ -66,83 +70,91 @@ room-p8 = let v : tableOf (p8 .bytes) .variables ≡ 2 = variables .1 in omega a
 room-p12 : setBytes * tableOf (p12 .bytes) .variables ≤ length eight
 room-p12 = let v : tableOf (p12 .bytes) .variables ≡ 1 = variables .2 in omega arith
 
-pub p5-answer : answer (p5 .bytes) 3 eight ≡ record { number = 8; count = 3; place = 0; output = eight }
+-- the answer that a case is
+is : (k : Case) (out : List ℕ) (r : Answered) (a : Answer) → handed a ≡ record { number = k .number; count = k .count; place = 0 } → Is k out r → r ≡ answered a (written (k .sets) out)
+is k out r a e w = let p : r .says ≡ a = handed-apart (r .says) a (w .0 ∙ sym e) in λ i. record { says = p i; output = w .1 i }
+
+pub p5-answer : answer (p5 .bytes) 3 eight ≡ answered (Nothing 3) eight
+unfolding Answers written assignmentBytes
+p5-answer = is p5 eight _ (Nothing 3) refl (cases-hold .1 .1 .1 .1 .0 3 (omega arith) eight (omega arith))
+
+pub p8-answer : answer (p8 .bytes) 14 eight ≡ answered (Solved 14) (2 ∷ 0 ∷ 0 ∷ 0 ∷ 1 ∷ 0 ∷ 0 ∷ 0 ∷ [])
 unfolding Answers written assignmentBytes littleEndian
-p5-answer = cases-hold .1 .1 .1 .1 .0 3 (omega arith) eight (omega arith)
+p8-answer = is p8 eight _ (Solved 14) refl (cases-hold .1 .1 .1 .1 .1 .1 .1 .0 14 (omega arith) eight (omega arith))
 
-pub p8-answer : answer (p8 .bytes) 14 eight ≡ record { number = 0; count = 14; place = 0; output = 2 ∷ 0 ∷ 0 ∷ 0 ∷ 1 ∷ 0 ∷ 0 ∷ 0 ∷ [] }
-unfolding Answers written assignmentBytes littleEndian
-p8-answer = cases-hold .1 .1 .1 .1 .1 .1 .1 .0 14 (omega arith) eight (omega arith)
+pub p9-answer : answer (p8 .bytes) 13 eight ≡ answered (Budget 13) eight
+unfolding Answers written assignmentBytes
+p9-answer = is p9 eight _ (Budget 13) refl (cases-hold .1 .1 .1 .1 .1 .1 .1 .1 .0 13 refl eight (omega arith))
 
-pub p9-answer : answer (p8 .bytes) 13 eight ≡ record { number = 9; count = 13; place = 0; output = eight }
-unfolding Answers written assignmentBytes littleEndian
-p9-answer = cases-hold .1 .1 .1 .1 .1 .1 .1 .1 .0 13 refl eight (omega arith)
+pub p12-answer : answer (p12 .bytes) 33 eight ≡ answered (Nothing 33) eight
+unfolding Answers written assignmentBytes
+p12-answer = is p12 eight _ (Nothing 33) refl (cases-hold .1 .1 .1 .1 .1 .1 .1 .1 .1 .1 .1 .0 33 (omega arith) eight (omega arith))
 
-pub p12-answer : answer (p12 .bytes) 33 eight ≡ record { number = 8; count = 33; place = 0; output = eight }
-unfolding Answers written assignmentBytes littleEndian
-p12-answer = cases-hold .1 .1 .1 .1 .1 .1 .1 .1 .1 .1 .1 .0 33 (omega arith) eight (omega arith)
+p5-none : Said Nothing (answer (p5 .bytes) 3 eight .says)
+p5-none = (3, ap (λ (r : Answered). r .says) p5-answer)
 
-p5-none : answer (p5 .bytes) 3 eight .number ≡ 8
-p5-none = ap (λ (r : Answered). r .number) p5-answer
+p8-solved : Said Solved (answer (p8 .bytes) 14 eight .says)
+p8-solved = (14, ap (λ (r : Answered). r .says) p8-answer)
 
-p8-solved : answer (p8 .bytes) 14 eight .number ≡ 0
-p8-solved = ap (λ (r : Answered). r .number) p8-answer
+p9-spent : Said Budget (answer (p8 .bytes) 13 eight .says)
+p9-spent = (13, ap (λ (r : Answered). r .says) p9-answer)
 
-p9-spent : answer (p8 .bytes) 13 eight .number ≡ 9
-p9-spent = ap (λ (r : Answered). r .number) p9-answer
+p12-none : Said Nothing (answer (p12 .bytes) 33 eight .says)
+p12-none = (33, ap (λ (r : Answered). r .says) p12-answer)
 
-p12-none : answer (p12 .bytes) 33 eight .number ≡ 8
-p12-none = ap (λ (r : Answered). r .number) p12-answer
+-- an answer with another number is not "solved"
+other : {a c : Answer} → a ≡ c → (handed c .number ≡ 0 → ⊥) → Said Solved a → ⊥
+other e f w = f (ap (λ (x : Answer). handed x .number) (sym e ∙ w .1))
 
 ----------------------------------------------------------------------------------------------------
 -- Demand 1
 
 -- an empty input is cut short
-empty-refused : RefusedAt [] 1 0
+empty-refused : RefusedAt [] (EndsEarly 0)
 empty-refused = header-cut (omega arith)
 
-pub empty-only : (answer [] 5 eight .number ≡ 1) × (answer [] 5 eight .count ≡ 0) × (answer [] 5 eight .place ≡ 0)
-empty-only = demand-1-only [] 5 eight 1 0 0 (refused empty-refused)
+pub empty-only : handed (answer [] 5 eight .says) ≡ record { number = 1; count = 0; place = 0 }
+empty-only = ap handed (demand-1-only [] 5 eight (EndsEarly 0) (refused empty-refused))
 
 pub empty-kept : answer [] 5 eight .output ≡ eight
-empty-kept = demand-1-kept [] 5 eight (λ z. let q : _≡_ {A = ℕ} 0 1 = sym z ∙ empty-only .0 in omega arith)
+empty-kept = demand-1-kept [] 5 eight (other (demand-1-only [] 5 eight (EndsEarly 0) (refused empty-refused)) (λ z. omega arith))
 
 pub empty-read : readAnswer (reading []) ≡ record { number = 1; place = 0; constants = 0; roles = 0; variables = 0; restrictions = 0; lines = 0 }
-empty-read = demand-1-read-refused [] 1 0 empty-refused
+empty-read = demand-1-read-refused [] (EndsEarly 0) empty-refused
 
 -- P8 has 18 bytes; one byte more is refused with 6 at 18
-pub longer-refused : RefusedAt (p8 .bytes ++ (0 ∷ [])) 6 18
-unfolding reading readBody readLine readEntry readRow readMany readHeader versionOne marked entryOf entryOfKind fillerOf fillerOfKind within kindOf
-longer-refused = refused-means (p8 .bytes ++ (0 ∷ [])) 6 18 refl
+pub longer-refused : RefusedAt (p8 .bytes ++ (0 ∷ [])) (BytesAfter 18)
+unfolding reading readBody readLine readEntry readRow readMany readHeader readCounts versionOne marked entryOf entryOfKind fillerOf fillerOfKind within kindOf
+longer-refused = refused-means (p8 .bytes ++ (0 ∷ [])) (BytesAfter 18) refl
 
-pub longer-answer : (answer (p8 .bytes ++ (0 ∷ [])) 14 eight .number ≡ 6) × (answer (p8 .bytes ++ (0 ∷ [])) 14 eight .place ≡ 18)
-longer-answer = demand-1-refused (p8 .bytes ++ (0 ∷ [])) 14 eight 6 18 (omega arith) (omega arith) .1 longer-refused
+pub longer-answer : handed (answer (p8 .bytes ++ (0 ∷ [])) 14 eight .says) ≡ record { number = 6; count = 0; place = 18 }
+longer-answer = ap handed (demand-1-refused (p8 .bytes ++ (0 ∷ [])) 14 eight (BytesAfter 18) (omega arith, omega arith) .1 longer-refused)
 
 -- P8 and an output of no bytes
-pub short-answer : answer (p8 .bytes) 14 [] .number ≡ 7
+pub short-answer : Said OutputShort (answer (p8 .bytes) 14 [] .says)
 short-answer = demand-1-short (p8 .bytes) 14 [] .1 (tableOf (p8 .bytes), p8-table, (let v : tableOf (p8 .bytes) .variables ≡ 2 = variables .1 in omega arith))
 
--- the rows of the table of numbers that the cases are, and their numbers
-pub p8-row : NumberAt (p8 .bytes) 14 8 (answer (p8 .bytes) 14 eight .number) (answer (p8 .bytes) 14 eight .count) (answer (p8 .bytes) 14 eight .place)
+-- the rows of the table of answers that the cases are, and their numbers
+pub p8-row : NumberAt (p8 .bytes) 14 8 (answer (p8 .bytes) 14 eight .says)
 p8-row = demand-1-row (p8 .bytes) 14 eight
 
-pub p12-row : NumberAt (p12 .bytes) 33 8 (answer (p12 .bytes) 33 eight .number) (answer (p12 .bytes) 33 eight .count) (answer (p12 .bytes) 33 eight .place)
+pub p12-row : NumberAt (p12 .bytes) 33 8 (answer (p12 .bytes) 33 eight .says)
 p12-row = demand-1-row (p12 .bytes) 33 eight
 
-pub p12-number : answer (p12 .bytes) 33 eight .number ≤ 9
+pub p12-number : handed (answer (p12 .bytes) 33 eight .says) .number ≤ 9
 p12-number = demand-1-number (p12 .bytes) 33 eight
 
 pub p5-kept : answer (p5 .bytes) 3 eight .output ≡ eight
-p5-kept = demand-1-kept (p5 .bytes) 3 eight (λ z. let q : _≡_ {A = ℕ} 0 8 = sym z ∙ p5-none in omega arith)
+p5-kept = demand-1-kept (p5 .bytes) 3 eight (other (p5-none .1) (λ z. omega arith))
 
 pub p12-kept : answer (p12 .bytes) 33 eight .output ≡ eight
-p12-kept = demand-1-kept (p12 .bytes) 33 eight (λ z. let q : _≡_ {A = ℕ} 0 8 = sym z ∙ p12-none in omega arith)
+p12-kept = demand-1-kept (p12 .bytes) 33 eight (other (p12-none .1) (λ z. omega arith))
 
 pub p8-behind : length (answer (p8 .bytes) 14 eight .output) ≡ 8
 p8-behind = demand-1-written (p8 .bytes) 14 eight p8-solved .1
 
 pub p12-read : readAnswer (reading (p12 .bytes)) ≡ record { number = 0; place = 0; constants = 2; roles = 1; variables = 1; restrictions = 3; lines = 3 }
-unfolding tableOf reading readBody readLine readEntry readRow readMany readHeader versionOne marked entryOf entryOfKind fillerOf fillerOfKind within kindOf
+unfolding countsOf tableOf reading readBody readLine readEntry readRow readMany readHeader readCounts versionOne marked entryOf entryOfKind fillerOf fillerOfKind within kindOf
 p12-read = demand-1-read (p12 .bytes) (tableOf (p12 .bytes)) p12-table
 
 ----------------------------------------------------------------------------------------------------
@@ -163,55 +175,19 @@ p12-more =
     ∷ 1 ∷ 0x60 ∷ 0x20 ∷ 1 ∷ 0x60 ∷ 0x21 ∷ 2 ∷ 0x40 ∷ 0x41 ∷ 0x42 ∷ 1 ∷ 0x43 ∷ 0x60 ∷ []
 
 p5-grown : Grown (p5 .bytes) p5-more
-unfolding rowBytes lineBytes reading readBody readLine readEntry readRow readMany readHeader versionOne marked entryOf entryOfKind fillerOf fillerOfKind within kindOf
+unfolding rowBytes lineBytes reading readBody readLine readEntry readRow readMany readHeader readCounts versionOne marked entryOf entryOfKind fillerOf fillerOfKind within kindOf
 p5-grown =
-    record {
-      readable-before = tt;
-      readable-after = tt;
-      version-low = refl;
-      version-high = refl;
-      constants = omega arith;
-      roles = omega arith;
-      variables = omega arith;
-      restrictions = omega arith;
-      lines = omega arith;
-      rows-first = ([], refl);
-      lines-first = ([], refl);
-    }
+    record { readable-before = tt; readable-after = tt; version-low = refl; version-high = refl; constants = omega arith; roles = omega arith; variables = omega arith; restrictions = omega arith; lines = omega arith; rows-first = ([], refl); lines-first = ([], refl) }
 
 p8-grown : Grown (p8 .bytes) p8-more
-unfolding rowBytes lineBytes reading readBody readLine readEntry readRow readMany readHeader versionOne marked entryOf entryOfKind fillerOf fillerOfKind within kindOf
+unfolding rowBytes lineBytes reading readBody readLine readEntry readRow readMany readHeader readCounts versionOne marked entryOf entryOfKind fillerOf fillerOfKind within kindOf
 p8-grown =
-    record {
-      readable-before = tt;
-      readable-after = tt;
-      version-low = refl;
-      version-high = refl;
-      constants = omega arith;
-      roles = omega arith;
-      variables = omega arith;
-      restrictions = omega arith;
-      lines = omega arith;
-      rows-first = (1 ∷ 0x62 ∷ [], refl);
-      lines-first = ([], refl);
-    }
+    record { readable-before = tt; readable-after = tt; version-low = refl; version-high = refl; constants = omega arith; roles = omega arith; variables = omega arith; restrictions = omega arith; lines = omega arith; rows-first = (1 ∷ 0x62 ∷ [], refl); lines-first = ([], refl) }
 
 p12-grown : Grown (p12 .bytes) p12-more
-unfolding rowBytes lineBytes reading readBody readLine readEntry readRow readMany readHeader versionOne marked entryOf entryOfKind fillerOf fillerOfKind within kindOf
+unfolding rowBytes lineBytes reading readBody readLine readEntry readRow readMany readHeader readCounts versionOne marked entryOf entryOfKind fillerOf fillerOfKind within kindOf
 p12-grown =
-    record {
-      readable-before = tt;
-      readable-after = tt;
-      version-low = refl;
-      version-high = refl;
-      constants = omega arith;
-      roles = omega arith;
-      variables = omega arith;
-      restrictions = omega arith;
-      lines = omega arith;
-      rows-first = (0 ∷ 0x22 ∷ [], refl);
-      lines-first = (1 ∷ 0x43 ∷ 0x60 ∷ [], refl);
-    }
+    record { readable-before = tt; readable-after = tt; version-low = refl; version-high = refl; constants = omega arith; roles = omega arith; variables = omega arith; restrictions = omega arith; lines = omega arith; rows-first = (0 ∷ 0x22 ∷ [], refl); lines-first = (1 ∷ 0x43 ∷ 0x60 ∷ [], refl) }
 
 ----------------------------------------------------------------------------------------------------
 -- Demand 2
@@ -232,20 +208,20 @@ pub p12-nothing : (N (tableOf (p12 .bytes)) ≤ 33) × NoneSolves (tableOf (p12 
 p12-nothing = demand-2-none-exactly (p12 .bytes) (tableOf (p12 .bytes)) p12-table 33 eight room-p12 .0 p12-none
 
 -- so with any larger budget they are answered "none"
-pub p12-larger : answer (p12 .bytes) 1000 eight .number ≡ 8
-p12-larger = ap (λ (r : Answered). r .number) (demand-2-none (p12 .bytes) (tableOf (p12 .bytes)) p12-table 1000 eight room-p12 (let l : N (tableOf (p12 .bytes)) ≤ 33 = p12-nothing .0 in omega arith) (p12-nothing .1))
+pub p12-larger : handed (answer (p12 .bytes) 1000 eight .says) .number ≡ 8
+p12-larger = ap (λ (r : Answered). handed (r .says) .number) (demand-2-none (p12 .bytes) (tableOf (p12 .bytes)) p12-table 1000 eight room-p12 (let l : N (tableOf (p12 .bytes)) ≤ 33 = p12-nothing .0 in omega arith) (p12-nothing .1))
 
-pub p12-decided : ((answer (p12 .bytes) 33 eight .number ≡ 0) × ((a : Assignment) × FirstSolving (tableOf (p12 .bytes)) a)) ⊎ ((answer (p12 .bytes) 33 eight .number ≡ 8) × NoneSolves (tableOf (p12 .bytes)))
+pub p12-decided : ((answer (p12 .bytes) 33 eight .says ≡ Solved (N (tableOf (p12 .bytes)))) × ((a : Assignment) × FirstSolving (tableOf (p12 .bytes)) a)) ⊎ ((answer (p12 .bytes) 33 eight .says ≡ Nothing (N (tableOf (p12 .bytes)))) × NoneSolves (tableOf (p12 .bytes)))
 p12-decided = demand-2-decides (p12 .bytes) (tableOf (p12 .bytes)) p12-table 33 eight room-p12 (p12-nothing .0)
 
 -- P8 needs more than 13 nodes, and so fewer do not do either
 pub p9-over : 13 < N (tableOf (p8 .bytes))
 p9-over = demand-2-budget-exactly (p8 .bytes) (tableOf (p8 .bytes)) p8-table 13 eight room-p8 .0 p9-spent
 
-pub p9-fewer : answer (p8 .bytes) 7 eight ≡ record { number = 9; count = 7; place = 0; output = eight }
+pub p9-fewer : answer (p8 .bytes) 7 eight ≡ answered (Budget 7) eight
 p9-fewer = demand-2-budget (p8 .bytes) (tableOf (p8 .bytes)) p8-table 7 eight room-p8 (let l : 13 < N (tableOf (p8 .bytes)) = p9-over in omega arith)
 
-pub p12-no-budget : answer (p12 .bytes) 0 eight ≡ record { number = 9; count = 0; place = 0; output = eight }
+pub p12-no-budget : answer (p12 .bytes) 0 eight ≡ answered (Budget 0) eight
 p12-no-budget = demand-2-no-budget (p12 .bytes) (tableOf (p12 .bytes)) p12-table 0 eight room-p12 refl
 
 ----------------------------------------------------------------------------------------------------
@@ -260,13 +236,13 @@ p12-any-depth = demand-3-none (p12 .bytes) 33 eight p12-none
 pub p8-some : (γ : Substitution) × T (makes (roleOrder (tableOf (p8 .bytes))) (tableOf (p8 .bytes)) γ)
 p8-some = demand-3-solved (p8 .bytes) 14 eight p8-solved
 
-pub p5-grown-never : (b : ℕ) (out : List ℕ) → answer p5-more b out .number ≡ 0 → ⊥
+pub p5-grown-never : (b : ℕ) (out : List ℕ) → Said Solved (answer p5-more b out .says) → ⊥
 p5-grown-never b out = demand-3-grown (p5 .bytes) p5-more p5-grown 3 b eight out p5-none
 
-pub p12-grown-never : (b : ℕ) (out : List ℕ) → answer p12-more b out .number ≡ 0 → ⊥
+pub p12-grown-never : (b : ℕ) (out : List ℕ) → Said Solved (answer p12-more b out .says) → ⊥
 p12-grown-never b out = demand-3-grown (p12 .bytes) p12-more p12-grown 33 b eight out p12-none
 
-pub p8-widened-never : (b : ℕ) (out : List ℕ) → answer p8-more b out .number ≡ 8 → ⊥
+pub p8-widened-never : (b : ℕ) (out : List ℕ) → Said Nothing (answer p8-more b out .says) → ⊥
 unfolding SameLines
 p8-widened-never b out = demand-3-widened (p8 .bytes) p8-more p8-grown 14 b eight out refl p8-solved
 

@@ -1,15 +1,21 @@
--- The table of numbers: which number is said of which bytes, budget and room, with which count and place.
+-- The table of answers: which is given to which bytes, budget and room. Number, count and place are what is handed back under it.
 --
---   FirstSolving t a        == a is an assignment of t that solves it, and none before it in counting order does
---   NoneSolves t            == no assignment of t solves it
---   N t                     == how many nodes the walk examines
---   NumberAt s b room n k p == to the bytes s, the budget b and an output of `room` bytes belong the number n, the count k and the place p
+--   FirstSolving t a    == a is an assignment of t that solves it, and none before it in counting order does
+--   NoneSolves t        == no assignment of t solves it
+--   N t                 == how many nodes the walk examines
+--   NumberAt s b room a == to the bytes s, the budget b and an output of `room` bytes belongs the answer a
+--   Said case a         == the answer a is of this case, whatever its count or place
+--   OfReader a          == the answer a is one of the reader's refusals
+use mathlib.Core.Path.{_≡_}
 use mathlib.Core.List.{List}
 use Prim.Native.Nat.{ℕ, _*_, _≤_, _<_}
 use Rattle.bounds.specs.Bounds.{setBytes}
 use Rattle.el.specs.Table.{Table, roleOrder}
 use Rattle.el.specs.Assignment.{Assignment, IsAssignment, Solves, Before}
 use Rattle.el.specs.Walk.{count}
+use Rattle.answer.specs.declared.Answer.{Answer}
+use Rattle.answer.specs.declared.Answer.the-variants.{Solved, EndsEarly, BytesAfter, OutputShort, Nothing, Budget}
+use Rattle.answer.specs.Handed.{handed}
 use Rattle.table.specs.Bytes.{IsTable}
 use Rattle.table.specs.Refusal.{RefusedAt}
 
@@ -26,14 +32,21 @@ abbrev pub N : Table → ℕ
 N t = count (roleOrder t) t
 
 -- "Numbers handed back", in the order of judging: "Then 6, then 7, then the walk."
-pub data NumberAt (s : List ℕ) (b room : ℕ) : ℕ → ℕ → ℕ → Type 0 where
-  -- 1 to 6, count 0: what is wrong with the bytes
-  refused : {n p : ℕ} → RefusedAt s n p → NumberAt s b room n 0 p
-  -- 7 "output shorter than 4v bytes", 0, 4v
-  too-short : (t : Table) → IsTable s t → room < setBytes * t .variables → NumberAt s b room 7 0 (setBytes * t .variables)
-  -- 0 "solved", N, 0
-  is-solved : (t : Table) → IsTable s t → setBytes * t .variables ≤ room → N t ≤ b → (a : Assignment) → FirstSolving t a → NumberAt s b room 0 (N t) 0
-  -- 8 "none", N, 0
-  is-none : (t : Table) → IsTable s t → setBytes * t .variables ≤ room → N t ≤ b → NoneSolves t → NumberAt s b room 8 (N t) 0
-  -- 9 "budget", b, 0
-  is-budget : (t : Table) → IsTable s t → setBytes * t .variables ≤ room → b < N t → NumberAt s b room 9 b 0
+pub data NumberAt (s : List ℕ) (b room : ℕ) : Answer → Type 0 where
+  -- what is wrong with the bytes
+  refused : {why : Answer} → RefusedAt s why → NumberAt s b room why
+  -- "output shorter than 4v bytes", 4v
+  too-short : (t : Table) → IsTable s t → room < setBytes * t .variables → NumberAt s b room (OutputShort (setBytes * t .variables))
+  -- "solved", N
+  is-solved : (t : Table) → IsTable s t → setBytes * t .variables ≤ room → N t ≤ b → (a : Assignment) → FirstSolving t a → NumberAt s b room (Solved (N t))
+  -- "none", N
+  is-none : (t : Table) → IsTable s t → setBytes * t .variables ≤ room → N t ≤ b → NoneSolves t → NumberAt s b room (Nothing (N t))
+  -- "budget", b
+  is-budget : (t : Table) → IsTable s t → setBytes * t .variables ≤ room → b < N t → NumberAt s b room (Budget b)
+
+abbrev pub Said : (ℕ → Answer) → Answer → Type 0
+Said case a = (n : ℕ) × (a ≡ case n)
+
+-- their numbers stand together, from "input ends early" to "bytes after the last line"
+abbrev pub OfReader : Answer → Type 0
+OfReader a = (handed (EndsEarly 0) .number ≤ handed a .number) × (handed a .number ≤ handed (BytesAfter 0) .number)

@@ -4,7 +4,7 @@
 --   line-unique == of the line call: the contents of the part, and where it begins
 --   solve-unique == of the solver: number, count, place and the output afterwards
 --   line-length == a line that is there has p + 2 bytes
-use mathlib.Core.Path.{_≡_, sym, ap, _∙_}
+use mathlib.Core.Path.{_≡_, sym, _∙_}
 use mathlib.Core.Bool.{Bool, true, false, _&&_, cond}
 use mathlib.Core.List.{List, []}
 use Prim.Native.Nat.{ℕ, _+_, _≤_, _<_}
@@ -14,13 +14,14 @@ use lib.ListN.{length, take, drop, length-drop}
 use lib.Seq.{length-take-le}
 use denote.Ref.{RefT, now}
 use borrow.Author.Tests.{lt-ltb}
+use Rattle.answer.specs.declared.Handed.{Handed}
+use Rattle.answer.specs.Handed.{handed}
 use Rattle.table.specs.Reading.{byteAt, reading, isReadable, headerOf}
 use Rattle.table.specs.Layout.{lineStart}
 use Rattle.table.specs.LayoutLaws.{layout}
 use Rattle.makrothel.specs.declared.ReadAnswer.{ReadAnswer}
-use Rattle.makrothel.specs.declared.SolveAnswer.{SolveAnswer}
 use Rattle.makrothel.specs.Answer.{readAnswer, hasLine, linePart, lineBegin, BeginsIn}
-use Rattle.makrothel.specs.Solve.{Answered, answered, answer}
+use Rattle.makrothel.specs.Solve.{answer}
 
 pub read-unique : (s : List ℕ) (a b : ReadAnswer) → a ≡ readAnswer (reading s) → b ≡ readAnswer (reading s) → a ≡ b
 read-unique s a b p q = p ∙ sym q
@@ -29,12 +30,9 @@ pub line-unique : (t a b : RefT (List ℕ)) (n : ℕ) → now a ≡ linePart (no
     → (now a ≡ now b) × (a .ptr .0 ≡ b .ptr .0) × (a .ptr .1 ≡ b .ptr .1)
 line-unique t a b n p q e f = (p ∙ sym e, q .0 ∙ sym (f .0), q .1 ∙ sym (f .1))
 
-pub solve-unique : (s : List ℕ) (b : ℕ) (out : List ℕ) (q r : SolveAnswer) (after later : List ℕ)
-    → answered q after ≡ answer s b out → answered r later ≡ answer s b out → (q ≡ r) × (after ≡ later)
-unfolding answered
-solve-unique s b out q r after later p e =
-    let same : answered q after ≡ answered r later = p ∙ sym e in
-    ((λ i. record { number = same i .number; count = same i .count; place = same i .place }), ap (λ (x : Answered). x .output) same)
+pub solve-unique : (s : List ℕ) (b : ℕ) (out : List ℕ) (q r : Handed) (after later : List ℕ)
+    → q ≡ handed (answer s b out .says) → after ≡ answer s b out .output → r ≡ handed (answer s b out .says) → later ≡ answer s b out .output → (q ≡ r) × (after ≡ later)
+solve-unique s b out q r after later p o e f = (p ∙ sym e, o ∙ sym f)
 
 pub line-length : (s : List ℕ) (n : ℕ) → T (isReadable (reading s)) → n < headerOf s .m → length (linePart s n) ≡ byteAt s (lineStart s n) + 2
 unfolding linePart hasLine

@@ -1,5 +1,6 @@
 // The public calls for C (include/makrothel.h). A lent slice passes as a pointer and then a length, a lent array as a pointer.
 ghost use mathlib.Core.Path.{_≡_};
+ghost use Rattle.answer.specs.Handed.{handed};
 ghost use Rattle.table.specs.Reading.{reading};
 ghost use Rattle.makrothel.specs.Answer.{readAnswer, linePart};
 ghost use Rattle.makrothel.specs.Solve.{answer};
@@ -50,8 +51,8 @@ pub extern "C" fn makrothel_solve(
     out: &mut [u8],
     numbers: &mut [u64; 2],
 ) -> u32
-    ensures number { λ r. ⌜ r ≡ answer (now (table .entry)) budget (now (out .entry)) .number ⌝ }
-    ensures numbers { λ _. ⌜ now (numbers .exit) ≡ countAndPlace (answer (now (table .entry)) budget (now (out .entry))) ⌝ }
+    ensures number { λ r. ⌜ r ≡ handed (answer (now (table .entry)) budget (now (out .entry)) .says) .number ⌝ }
+    ensures numbers { λ _. ⌜ now (numbers .exit) ≡ countAndPlace (handed (answer (now (table .entry)) budget (now (out .entry)) .says)) ⌝ }
     ensures output { λ _. ⌜ now (out .exit) ≡ answer (now (table .entry)) budget (now (out .entry)) .output ⌝ }
 {
     let a = crate::solve(table, budget, out);

@@ -5,11 +5,14 @@ ghost use mathlib.Core.Path.{_≡_};
 ghost use Prim.Native.Nat.{_*_, _≤_};
 ghost use lib.ListN.{length};
 ghost use Rattle.bounds.specs.Bounds.{setBytes, maxVariables};
+ghost use Rattle.answer.specs.Handed.{handed};
 ghost use Rattle.table.specs.Reading.{reading};
 ghost use Rattle.walk.specs.Step.{outcomeOf};
-ghost use Rattle.makrothel.specs.Answer.{readAnswer, linePart, lineBegin, BeginsIn};
+ghost use Rattle.makrothel.specs.Answer.{readAs, readAnswer, linePart, lineBegin, BeginsIn};
 ghost use Rattle.makrothel.specs.Solve.{outcomeAs, answered, answer};
+use answer::Answer;
 use bounds::Count;
+use table::Header;
 use table::Verdict;
 use walk::End;
 use walk::Walked;
@@ -25,10 +28,20 @@ pub struct ReadAnswer {
     pub lines: u32,
 }
 
-fn count(x: u8) -> u32
-    ensures { λ r. ⌜ r ≡ x ⌝ }
+// What the reader hands back under an answer and these counts.
+fn read_as(a: Answer, counts: Header) -> ReadAnswer
+    ensures { λ r. ⌜ r ≡ readAs a counts ⌝ }
 {
-    x as u32
+    let told = answer::hand(a);
+    ReadAnswer {
+        number: told.number,
+        place: told.place,
+        constants: counts.c as u32,
+        roles: counts.r as u32,
+        variables: counts.v as u32,
+        restrictions: counts.e as u32,
+        lines: counts.m as u32,
+    }
 }
 
 // Reads a table: every byte string is answered.
@@ -36,24 +49,17 @@ pub fn read(table: &[u8]) -> ReadAnswer
     ensures { λ r. ⌜ r ≡ readAnswer (reading (now (table .entry))) ⌝ }
 {
     match table::check(table) {
-        Verdict::Refused(number, place) => ReadAnswer {
-            number: number,
-            place: place,
-            constants: 0,
-            roles: 0,
-            variables: 0,
-            restrictions: 0,
-            lines: 0,
-        },
-        Verdict::Readable => ReadAnswer {
-            number: 0,
-            place: 0,
-            constants: count(table[table::CONSTANTS]),
-            roles: count(table[table::ROLES]),
-            variables: count(table[table::VARIABLES]),
-            restrictions: count(table[table::RESTRICTIONS]),
-            lines: count(table[table::LINES]),
-        },
+        Verdict::Refused(why) => read_as(
+            why,
+            Header {
+                c: 0,
+                r: 0,
+                v: 0,
+                e: 0,
+                m: 0,
+            },
+        ),
+        Verdict::Readable => read_as(Answer::Solved(0), table::header_of(table)),
     }
 }
 
@@ -63,12 +69,14 @@ pub fn line<'a>(table: &'a [u8], n: u32) -> &'a [u8]
     ensures place { λ r. ⌜ BeginsIn r (table .entry) (lineBegin (now (table .entry)) n) ⌝ }
 {
     match table::check(table) {
-        Verdict::Refused(_, _) => {
+        Verdict::Refused(_) => {
             return &table[0..0];
         }
         Verdict::Readable => {}
     }
-    if count(table[table::LINES]) <= n {
+    let header = table::header_of(table);
+    let lines = header.m as u32;
+    if lines <= n {
         return &table[0..0];
     }
     let at = table::line_start(table, n as usize);
@@ -77,14 +85,10 @@ pub fn line<'a>(table: &'a [u8], n: u32) -> &'a [u8]
 }
 
 // What the solver answers: number, count and place.
-pub struct SolveAnswer {
-    pub number: u32,
-    pub count: Count,
-    pub place: usize,
-}
+pub type SolveAnswer = answer::Handed;
 
 // The answer to the end of a walk; only a walk that found an assignment writes.
-fn finish(walked: Walked, out: &mut [u8]) -> SolveAnswer
+fn finish(walked: Walked, out: &mut [u8]) -> Answer
     requires { ⌜ (walked .sets .chosen ≤ maxVariables) × (setBytes * walked .sets .chosen ≤ length (now out)) ⌝ }
     ensures { λ r. ⌜ answered r (now (out .exit)) ≡ outcomeAs (outcomeOf walked) (now (out .entry)) ⌝ }
 {
@@ -96,46 +100,35 @@ fn finish(walked: Walked, out: &mut [u8]) -> SolveAnswer
             let set = sets.set;
             let n = sets.chosen;
             output::put_all(out, set, n);
-            SolveAnswer {
-                number: 0,
-                count: count,
-                place: 0,
-            }
+            Answer::Solved(count)
         }
-        End::Nothing => SolveAnswer {
-            number: 8,
-            count: count,
-            place: 0,
-        },
-        End::Spent => SolveAnswer {
-            number: 9,
-            count: count,
-            place: 0,
-        },
+        End::Nothing => Answer::Nothing(count),
+        End::Spent => Answer::Budget(count),
     }
+}
+
+// The answer to a table.
+fn answer_to(table: &[u8], budget: Count, out: &mut [u8]) -> Answer
+    ensures { λ r. ⌜ answered r (now (out .exit)) ≡ answer (now (table .entry)) budget (now (out .entry)) ⌝ }
+{
+    match table::check(table) {
+        Verdict::Refused(why) => {
+            return why;
+        }
+        Verdict::Readable => {}
+    }
+    let header = table::header_of(table);
+    let needed = bounds::SET_BYTES * table::wide(header.v);
+    if out.len() < needed {
+        return Answer::OutputShort(needed);
+    }
+    finish(walk::walk(table, budget), out)
 }
 
 // Solves a table: every byte string, every budget and every output length is answered.
 pub fn solve(table: &[u8], budget: Count, out: &mut [u8]) -> SolveAnswer
-    ensures { λ r. ⌜ answered r (now (out .exit)) ≡ answer (now (table .entry)) budget (now (out .entry)) ⌝ }
+    ensures numbers { λ r. ⌜ r ≡ handed (answer (now (table .entry)) budget (now (out .entry)) .says) ⌝ }
+    ensures output { λ _. ⌜ now (out .exit) ≡ answer (now (table .entry)) budget (now (out .entry)) .output ⌝ }
 {
-    match table::check(table) {
-        Verdict::Refused(number, place) => {
-            return SolveAnswer {
-                number: number,
-                count: 0,
-                place: place,
-            };
-        }
-        Verdict::Readable => {}
-    }
-    let needed = bounds::SET_BYTES * table::wide(table[table::VARIABLES]);
-    if out.len() < needed {
-        return SolveAnswer {
-            number: 7,
-            count: 0,
-            place: needed,
-        };
-    }
-    finish(walk::walk(table, budget), out)
+    answer::hand(answer_to(table, budget, out))
 }

@@ -11,11 +11,11 @@ use native.Mathlib.Omega.{arith}
 use native.Mathlib.Nat.{le-refl, pow-suc, pow-le-pow-right}
 use native.Mathlib.Numerals.{add-one}
 use lib.ListN.{length, getD, set, take, drop, length-append, length-drop}
-use lib.Seq.{take-at, drop-at, drop-drop, take-all, drop-length, take-suc, length-take-le}
+use lib.Seq.{drop-drop, take-all, drop-length, take-suc, length-take-le}
 use borrow.Rule.Slice.PartMut.{putMid, post-is}
 use Rattle.bounds.specs.Bounds.{setBytes}
 use Rattle.output.specs.Written.{littleEndian, numberAt, widest, assignmentBytes, written}
-use Rattle.output.specs.WrittenLaws.{bytes-length, bytes-more}
+use Rattle.output.specs.WrittenLaws.{bytes-more, written-start, written-behind}
 
 -- the bytes before i, then k bytes of the number, then what stands behind
 abbrev pub with : ℕ → ℕ → ℕ → List ℕ → List ℕ
@@ -48,7 +48,7 @@ written-more : (a out : List ℕ) (x : ℕ)
     → take (setBytes * length a) (written a out) ++ (littleEndian setBytes x ++ drop setBytes (drop (setBytes * length a) (written a out))) ≡ written (a ++ (x ∷ [])) out
 unfolding written
 written-more a out x =
-    ap₂ (λ (p q : List ℕ). p ++ (littleEndian setBytes x ++ drop setBytes q)) (take-at (assignmentBytes a) _ _ (bytes-length a)) (drop-at (assignmentBytes a) _ _ (bytes-length a))
+    ap₂ (λ (p q : List ℕ). p ++ (littleEndian setBytes x ++ drop setBytes q)) (written-start (length a) a out refl) (written-behind (length a) a out refl)
     ∙ ap (λ (q : List ℕ). assignmentBytes a ++ (littleEndian setBytes x ++ q)) (drop-drop setBytes (setBytes * length a) out)
     ∙ sym (append-assoc (assignmentBytes a) (littleEndian setBytes x) _)
     ∙ ap₂ (λ (p : List ℕ) (k : ℕ). p ++ drop k out) (sym (bytes-more a x)) (let n : length (a ++ (x ∷ [])) ≡ length a + 1 = length-append a (x ∷ []) in let z : setBytes * length a + setBytes ≡ setBytes * length (a ++ (x ∷ [])) = omega arith in z)

@@ -3,13 +3,15 @@
 --   littleEndian-length, bytes-length == how long a number is, and an assignment
 --   bytes-more     == one set more
 --   written-length == the output keeps its length
+--   written-start, written-behind == the sets stand first, and what stands behind them stays
 --   set-back       == WHAT WAS WRITTEN IS READ BACK
 use mathlib.Core.Path.{_≡_, refl, ap, ap₂, _∙_}
 use mathlib.Core.List.{List, [], _∷_, _++_, append-assoc, append-nil}
 use Prim.Native.Nat.{ℕ, zero, suc, _<_, _+_, _*_, _/_, _%_, _^_, _≤_}
 use native.Mathlib.Omega.{arith}
 use native.Mathlib.Nat.{pow-suc}
-use lib.ListN.{length, getD, drop, length-append, length-drop}
+use lib.ListN.{length, getD, take, drop, length-append, length-drop}
+use lib.Seq.{take-at, drop-at}
 use Rattle.bounds.specs.Bounds.{setBytes, setNumbers}
 use Rattle.output.specs.Written.{littleEndian, numberAt, assignmentBytes, setIn, written}
 
@@ -31,6 +33,16 @@ bytes-more (y ∷ a) x = ap (λ (l : List ℕ). littleEndian setBytes y ++ l) (b
 pub written-length : (a out : List ℕ) → setBytes * length a ≤ length out → length (written a out) ≡ length out
 unfolding written
 written-length a out h = simp (length-append, bytes-length, length-drop) (omega arith)
+
+-- with a set for each of v variables: the bytes before 4v, and those behind
+module _ (v : ℕ) (a out : List ℕ) (e : length a ≡ v) where
+  pub written-start : take (setBytes * v) (written a out) ≡ assignmentBytes a
+  unfolding written
+  written-start = take-at (assignmentBytes a) _ _ (bytes-length a ∙ ap (λ (k : ℕ). setBytes * k) e)
+
+  pub written-behind : drop (setBytes * v) (written a out) ≡ drop (setBytes * v) out
+  unfolding written
+  written-behind = drop-at (assignmentBytes a) _ _ (bytes-length a ∙ ap (λ (k : ℕ). setBytes * k) e) ∙ ap (λ (k : ℕ). drop (setBytes * k) out) e
 
 -- ── read back ──
 

@@ -1,7 +1,21 @@
 // Reads many tables and prints what the public calls answer: for the reader a line with number, place and the five counts,
 // for the line call a line with the length of the part and its bytes. Each group has a title.
 ghost use Prim.Native.Nat.{_≤_, _<_};
+ghost use Rattle.table.specs.Bytes.{enoughLength};
+use bounds::MAX_ATOMS;
+use bounds::MAX_LEFT;
+use bounds::MAX_LINES;
+use bounds::MAX_ROLES;
+use bounds::MAX_VARIABLES;
 use libc::STDOUT_FILENO;
+
+// Where the rows of the longest table end, and where it ends.
+const ROWS_END: usize = table::HEADER + 2 * MAX_ATOMS;
+
+const LONGEST: usize = ROWS_END + MAX_LINES * (MAX_LEFT + 2);
+
+// One byte more.
+const MOST: usize = LONGEST + 1;
 
 // 3 constants, 2 roles, 2 variables, 2 restrictions and 2 lines: byte 13 is a filler, byte 15 a left entry, byte 17 a right one.
 const PLAIN: [u8; 21] = [
@@ -89,24 +103,24 @@ fn show_codes(at: usize)
     show(&table);
 }
 
-fn with_header(table: [u8; 699], c: u8, r: u8, v: u8, e: u8, m: u8) -> [u8; 699] {
+fn with_header(table: [u8; MOST], c: u8, r: u8, v: u8, e: u8, m: u8) -> [u8; MOST] {
     let mut t = table;
     t[0] = 0x56;
     t[1] = 0x4F;
     t[2] = 0x43;
     t[3] = 1;
     t[4] = 0;
-    t[5] = c;
-    t[6] = r;
-    t[7] = v;
-    t[8] = e;
-    t[9] = m;
+    t[table::CONSTANTS] = c;
+    t[table::ROLES] = r;
+    t[table::VARIABLES] = v;
+    t[table::RESTRICTIONS] = e;
+    t[table::LINES] = m;
     t
 }
 
 // The value at every `step`th byte from `from` up to `end`.
-fn filled(table: [u8; 699], from: usize, end: usize, step: usize, value: u8) -> [u8; 699]
-    requires { ⌜ (end ≤ 699) × (0 < step) × (step ≤ 10) ⌝ }
+fn filled(table: [u8; MOST], from: usize, end: usize, step: usize, value: u8) -> [u8; MOST]
+    requires { ⌜ (end ≤ enoughLength) × (0 < step) × (step ≤ 10) ⌝ }
 {
     let mut t = table;
     let mut at = from;
@@ -118,51 +132,58 @@ fn filled(table: [u8; 699], from: usize, end: usize, step: usize, value: u8) -> 
 }
 
 // The first n bytes, read.
-fn show_first(table: [u8; 699], n: usize)
-    requires { ⌜ n ≤ 699 ⌝ }
+fn show_first(table: [u8; MOST], n: usize)
+    requires { ⌜ n ≤ enoughLength ⌝ }
 {
     show(&table[0..n]);
 }
 
 // Line k of the first n bytes.
-fn show_line_of_first(table: [u8; 699], n: usize, k: u32)
-    requires { ⌜ n ≤ 699 ⌝ }
+fn show_line_of_first(table: [u8; MOST], n: usize, k: u32)
+    requires { ⌜ n ≤ enoughLength ⌝ }
 {
     show_line(&table[0..n], k);
 }
 
 fn show_header(c: u8, r: u8, v: u8, e: u8, m: u8) {
-    let base = [0u8; 699];
+    let base = [0u8; MOST];
     let t = with_header(base, c, r, v, e, m);
-    show_first(t, 10);
+    show_first(t, table::HEADER);
 }
 
 // m lines, each "top below constant 0".
 fn show_many_lines(m: u8, end: usize)
-    requires { ⌜ end ≤ 699 ⌝ }
+    requires { ⌜ end ≤ enoughLength ⌝ }
 {
-    let base = [0x20u8; 699];
+    let base = [0x20u8; MOST];
     let t = with_header(base, 1, 0, 0, 0, m);
-    let t = filled(t, 10, end, 2, 0);
+    let t = filled(t, table::HEADER, end, 2, 0);
     show_first(t, end);
 }
 
 // One line with the left count p.
 fn show_left_count(p: u8, end: usize)
-    requires { ⌜ end ≤ 699 ⌝ }
+    requires { ⌜ end ≤ enoughLength ⌝ }
 {
-    let base = [0x20u8; 699];
+    let base = [0x20u8; MOST];
     let t = with_header(base, 1, 0, 0, 0, 1);
-    let t = filled(t, 10, 11, 1, p);
+    let t = filled(t, table::HEADER, table::HEADER + 1, 1, p);
     show_first(t, end);
 }
 
-// 24 rows and 64 lines with 8 left entries each, and one byte more.
-fn longest() -> [u8; 699] {
-    let base = [0x40u8; 699];
-    let t = with_header(base, 0, 16, 12, 24, 64);
-    let t = filled(t, 10, 58, 1, 0);
-    filled(t, 58, 698, 10, 8)
+// As many rows, and lines with as many left entries, as are allowed, and one byte more.
+fn longest() -> [u8; MOST] {
+    let base = [0x40u8; MOST];
+    let t = with_header(
+        base,
+        0,
+        MAX_ROLES,
+        MAX_VARIABLES as u8,
+        MAX_ATOMS as u8,
+        MAX_LINES as u8,
+    );
+    let t = filled(t, table::HEADER, ROWS_END, 1, 0);
+    filled(t, ROWS_END, LONGEST, MAX_LEFT + 2, MAX_LEFT as u8)
 }
 
 fn show_order() {
@@ -218,9 +239,9 @@ fn show_bounds() {
     show_left_count(9, 21);
     say(b"the longest table, a byte less, a byte more\n");
     let t = longest();
-    show_first(t, 698);
-    show_first(t, 697);
-    show_first(t, 699);
+    show_first(t, LONGEST);
+    show_first(t, LONGEST - 1);
+    show_first(t, MOST);
 }
 
 fn show_lines() {
@@ -236,9 +257,9 @@ fn show_lines() {
     show_line(b"VOC\x01\x00\x01\x00\x00\x00\x01\x00\x20\x00", 0);
     say(b"lines 63 and 64 of the longest table, and line 63 with a byte more\n");
     let t = longest();
-    show_line_of_first(t, 698, 63);
-    show_line_of_first(t, 698, 64);
-    show_line_of_first(t, 699, 63);
+    show_line_of_first(t, LONGEST, 63);
+    show_line_of_first(t, LONGEST, 64);
+    show_line_of_first(t, MOST, 63);
 }
 
 fn main() {

@@ -12,7 +12,6 @@
 use mathlib.Core.Path.{_≡_, refl, sym, ap, ap₂, _∙_}
 use mathlib.Core.Bool.{Bool, true, false, not, _||_, cond, or-true, or-false}
 use mathlib.Core.List.{List, [], _∷_, _++_, append-nil, map, map-append}
-use mathlib.Core.Option.{some, Option·none-ne-some, Option·some-injective}
 use Prim.Native.Nat.{ℕ, zero, suc, _+_, _*_, _-_, _≤_, _<_}
 use native.Mathlib.Omega.{arith}
 use native.Mathlib.Numerals.{add-one}
@@ -21,70 +20,56 @@ use lib.ListN.{length}
 use borrow.Author.Tests.{lt-ltb, le-ltb}
 use Rattle.bounds.specs.Bounds.{maxAtoms, setBytes}
 use Rattle.el.specs.Test.{bit}
-use Rattle.el.specs.Table.{Filler, topF, Table, rowAt, atoms}
-use Rattle.table.specs.declared.Kind.{Kind}
-use Rattle.table.specs.declared.Kind.the-variants.{Top, Constant, Restriction, Variable, Other}
-use Rattle.table.specs.declared.Verdict.the-variants.{Refused}
-use Rattle.table.specs.Code.{kindOf, fillerOfKind, fillerOf}
-use Rattle.table.specs.Reading.{byteAt, Reading, refusal, readable, reading, theTable, tableOf, isReadable, headerOf}
+use Rattle.el.specs.Table.{Filler, Table, rowAt, atoms}
+use Rattle.answer.specs.declared.Answer.{Answer}
+use Rattle.answer.specs.declared.Handed.{Handed}
+use Rattle.table.specs.declared.Header.{Header}
+use Rattle.table.specs.declared.Verdict.the-variants.{Refused, Readable}
+use Rattle.table.specs.Code.{kindOf, WritesFiller, fills-top, fills-constant, fills-variable}
+use Rattle.table.specs.Reading.{Reading, refusal, readable, reading, theTable, tableOf, isReadable, headerOf}
 use Rattle.table.specs.Step.{verdictOf}
-use Rattle.table.specs.CodeLaws.{within-some}
-use Rattle.table.specs.LayoutLaws.{layout, refused-readable}
+use Rattle.table.specs.Layout.{IsRowFiller}
+use Rattle.table.specs.CodeLaws.{filler-writes}
+use Rattle.table.specs.LayoutLaws.{layout, refused-readable, readable-is}
 use Rattle.output.specs.Written.{setIn}
 use Rattle.text.specs.Append.{Appended}
 use Rattle.text.specs.AppendLaws.{appended-none, appended-then, appended-as}
-use Rattle.text.specs.Text.{newline, decimal, joined, any, numbersText}
+use Rattle.text.specs.Text.{newline, decimal, joined, any, answerText}
 use Rattle.text.specs.Listing.{topText, constantText, variableText, fillerText, codeText, rowText, atomText, atomsIn, atomTexts, ampersand, conjunctionText, setText, atomOf, SetBegun, variableLine, variableLines, solvedText, underNumber, firstLine, listingText}
 use Rattle.text.proofs.Laws.{joined-more}
 
 ------------------------------------------------------------------ fillers, rows and atoms
 
 -- a code that is a filler is written as that filler
-filler-text : (c v b : ℕ) (f : Filler) → fillerOf c v b ≡ some f → codeText (kindOf b) ≡ fillerText f
-unfolding fillerOf fillerOfKind codeText fillerText
-filler-text c v b f q = go (kindOf b) q
-  where
-    go : (k : Kind) → fillerOfKind c v k ≡ some f → codeText k ≡ fillerText f
-    go Top e = ap fillerText (Option·some-injective topF f e)
-    go (Constant k) e = ap fillerText (within-some k c _ f e .1)
-    go (Restriction k) e = absurd (Option·none-ne-some f e)
-    go (Variable k) e = ap fillerText (within-some k v _ f e .1)
-    go Other e = absurd (Option·none-ne-some f e)
+filler-text : {c v b : ℕ} {f : Filler} → WritesFiller c v b f → codeText (kindOf b) ≡ fillerText f
+unfolding codeText fillerText
+filler-text (fills-top i) = ap codeText i
+filler-text (fills-constant k i l) = ap codeText i
+filler-text (fills-variable k i l) = ap codeText i
 
 module _ (s : List ℕ) (ok : T (isReadable (reading s))) where
-  pub row-in : (k : ℕ) → k < headerOf s .e → 11 + 2 * k < length s
-  row-in = layout s ok .row-in
-
-  pub row-text : (k role code : ℕ) → k < headerOf s .e → role ≡ byteAt s (10 + 2 * k) → code ≡ byteAt s (10 + 2 * k + 1)
+  pub row-text : (k role r code : ℕ) → role ≡ r → r ≡ rowAt (tableOf s .rows) k .role → IsRowFiller s k code
       → (0x72 ∷ decimal role) ++ ((0x2E ∷ []) ++ codeText (kindOf code)) ≡ rowText (rowAt (tableOf s .rows) k)
-  unfolding rowText
-  row-text k role code h p q =
-      ap₂ (λ (d f : List ℕ). 0x72 ∷ (d ++ (0x2E ∷ f))) (ap decimal (p ∙ sym (layout s ok .row-role k h)))
-      (ap (λ (x : ℕ). codeText (kindOf x)) (q ∙ ap (byteAt s) (let z : 10 + 2 * k + 1 ≡ 11 + 2 * k = omega arith in z)) ∙ filler-text (headerOf s .c) (headerOf s .v) (byteAt s (11 + 2 * k)) _ (layout s ok .row-filler k h))
+  unfolding rowText IsRowFiller
+  row-text k role r code p q w =
+      ap₂ (λ (d f : List ℕ). 0x72 ∷ (d ++ (0x2E ∷ f))) (ap decimal (p ∙ q)) (filler-text (filler-writes (headerOf s .c) (headerOf s .v) code _ w))
 
-  pub atom-constant : (i c : ℕ) → c ≡ headerOf s .c → i < c → constantText i ≡ atomText (tableOf s) i
+  pub atom-constant : (i : ℕ) (h : Header) (c : ℕ) → h ≡ headerOf s → c ≡ h .c → i < c → constantText i ≡ atomText (tableOf s) i
   unfolding atomText
-  atom-constant i c e h = rw (lt-ltb i (tableOf s .constants) (omega (arith, layout s ok .constants)), atomText)
+  atom-constant i h c e q l = rw (lt-ltb i (tableOf s .constants) (omega (arith, layout s ok .constants, ap (λ (x : Header). x .c) e)), atomText)
 
-  pub atom-row : (i c : ℕ) → c ≡ headerOf s .c → c ≤ i → rowText (rowAt (tableOf s .rows) (i - c)) ≡ atomText (tableOf s) i
+  pub atom-row : (i : ℕ) (h : Header) (c : ℕ) → h ≡ headerOf s → c ≡ h .c → c ≤ i → rowText (rowAt (tableOf s .rows) (i - c)) ≡ atomText (tableOf s) i
   unfolding atomText
-  atom-row i c e h =
-      rw (le-ltb i (tableOf s .constants) (omega (arith, layout s ok .constants)), atomText)
-      (ap (λ (k : ℕ). rowText (rowAt (tableOf s .rows) (i - k))) (e ∙ sym (layout s ok .constants)))
+  atom-row i h c e q l =
+      rw (le-ltb i (tableOf s .constants) (omega (arith, layout s ok .constants, ap (λ (x : Header). x .c) e)), atomText)
+      (ap (λ (k : ℕ). rowText (rowAt (tableOf s .rows) (i - k))) (q ∙ ap (λ (x : Header). x .c) e ∙ sym (layout s ok .constants)))
 
-  pub header-in : 10 ≤ length s
-  header-in = layout s ok .header-in
-
-  pub few-atoms : headerOf s .c + headerOf s .e ≤ maxAtoms
-  few-atoms = layout s ok .few-atoms
-
-  -- a loop over all atoms has come to its end
-  pub atoms-left : (c e i : ℕ) → c ≡ headerOf s .c → e ≡ headerOf s .e → i ≤ c + e → c + e ≤ i → i ≡ atoms (tableOf s)
+  -- how many atoms there are
+  pub atoms-are : (h : Header) (c e : ℕ) → h ≡ headerOf s → c ≡ h .c → e ≡ h .e → (c + e ≡ atoms (tableOf s)) × (c + e ≤ maxAtoms)
   unfolding atoms
-  atoms-left c e i p q h l = omega (arith, layout s ok .constants, layout s ok .rows)
-
-  pub variables-are : tableOf s .variables ≡ headerOf s .v
-  variables-are = layout s ok .variables
+  atoms-are h c e q p o =
+      let x = ap (λ (x : Header). x .c) q in let y = ap (λ (x : Header). x .e) q in
+      (omega (arith, layout s ok .constants, layout s ok .rows), omega (arith, layout s ok .few-atoms))
 
 ------------------------------------------------------------------ sets
 
@@ -160,26 +145,29 @@ module _ (t : Table) (out : List ℕ) where
   solved-all n e h x = rw (le-ltb (length out) (setBytes * t .variables) (omega arith), solvedText) (appended-as x (ap (variableLines t (setIn out)) (sym e)))
 
 module _ (s : List ℕ) where
-  refused-none : (n p : ℕ) → verdictOf (reading s) ≡ Refused n p → tableOf s .variables ≡ 0
+  refused-none : (why : Answer) → verdictOf (reading s) ≡ Refused why → tableOf s .variables ≡ 0
   unfolding verdictOf tableOf
-  refused-none n p q = go (reading s) q
+  refused-none why q = go (reading s) q
     where
-      go : (x : Reading) → verdictOf x ≡ Refused n p → theTable x .variables ≡ 0
-      go (refusal m k) q = refl
-      go (readable h t) q = absurd (refused-readable n p (sym q))
+      go : (x : Reading) → verdictOf x ≡ Refused why → theTable x .variables ≡ 0
+      go (refusal n) q = refl
+      go (readable h t) q = absurd (refused-readable why (sym q))
 
-  pub solved-refused : {b : List ℕ} {at : ℕ} (n p : ℕ) (out : List ℕ) → verdictOf (reading s) ≡ Refused n p → Appended b at (solvedText (tableOf s) out) b at
-  solved-refused {b} {at} n p out q = solved-all (tableOf s) out 0 (refused-none n p q) (omega arith) (lines-none (tableOf s) out b at)
+  pub solved-refused : {b : List ℕ} {at : ℕ} (why : Answer) (out : List ℕ) → verdictOf (reading s) ≡ Refused why → Appended b at (solvedText (tableOf s) out) b at
+  solved-refused {b} {at} why out q = solved-all (tableOf s) out 0 (refused-none why q) (omega arith) (lines-none (tableOf s) out b at)
 
-  module _ (number count place : ℕ) (out : List ℕ) where
-    pub listing-other : {b m a : List ℕ} {at e r : ℕ} → (number ≡ 0 → ⊥) → Appended b at (numbersText (number ∷ count ∷ place ∷ [])) m e → Appended m e newline a r → Appended b at (listingText s number count place out) a r
+  pub variables-are : (h : Header) (v : ℕ) → verdictOf (reading s) ≡ Readable → h ≡ headerOf s → v ≡ h .v → tableOf s .variables ≡ v
+  variables-are h v q e o = layout s (readable-is s q) .variables ∙ sym (o ∙ ap (λ (x : Header). x .v) e)
+
+  module _ (h : Handed) (out : List ℕ) where
+    pub listing-other : {b m a : List ℕ} {at e r : ℕ} → (h .number ≡ 0 → ⊥) → Appended b at (answerText h) m e → Appended m e newline a r → Appended b at (listingText s h out) a r
     unfolding listingText firstLine
-    listing-other n x y = appended-as (appended-then x y) (sym (append-nil _) ∙ ap (λ (z : List ℕ). (numbersText (number ∷ count ∷ place ∷ []) ++ newline) ++ z) (go number n))
+    listing-other n x y = appended-as (appended-then x y) (sym (append-nil _) ∙ ap (λ (z : List ℕ). (answerText h ++ newline) ++ z) (go (h .number) n))
       where
         go : (k : ℕ) → (k ≡ 0 → ⊥) → [] ≡ underNumber k (solvedText (tableOf s) out)
         go zero n = absurd (n refl)
         go (suc k) n = refl
 
-    pub listing-solved : {b m m′ a : List ℕ} {at e e′ r : ℕ} → number ≡ 0 → Appended b at (numbersText (number ∷ count ∷ place ∷ [])) m e → Appended m e newline m′ e′ → Appended m′ e′ (solvedText (tableOf s) out) a r → Appended b at (listingText s number count place out) a r
+    pub listing-solved : {b m m′ a : List ℕ} {at e e′ r : ℕ} → h .number ≡ 0 → Appended b at (answerText h) m e → Appended m e newline m′ e′ → Appended m′ e′ (solvedText (tableOf s) out) a r → Appended b at (listingText s h out) a r
     unfolding listingText firstLine
-    listing-solved n x y z = appended-as (appended-then (appended-then x y) z) (ap (λ (w : List ℕ). (numbersText (number ∷ count ∷ place ∷ []) ++ newline) ++ w) (sym (ap (λ (k : ℕ). underNumber k (solvedText (tableOf s) out)) n)))
+    listing-solved n x y z = appended-as (appended-then (appended-then x y) z) (ap (λ (w : List ℕ). (answerText h ++ newline) ++ w) (sym (ap (λ (k : ℕ). underNumber k (solvedText (tableOf s) out)) n)))

@@ -2,10 +2,11 @@
 --
 --   readText number place c r v e m   == the reader's answer: `number place c r v e m`
 --   lineText part                     == the part in hexadecimal, `-` for an empty one
---   solveText number count place out  == the solver's answer: `number count place` and the output in hexadecimal, `-` for an empty one
+--   solveText a out                   == the solver's answer: `number count place` and the output in hexadecimal, `-` for an empty one
 use mathlib.Core.List.{List, [], _∷_, _++_}
 use Prim.Native.Nat.{ℕ}
-use Rattle.text.specs.Text.{space, newline, numbersText, hexText}
+use Rattle.answer.specs.declared.Handed.{Handed}
+use Rattle.text.specs.Text.{space, newline, numbersText, answerText, hexText}
 
 unfoldable pub readText : ℕ → ℕ → ℕ → ℕ → ℕ → ℕ → ℕ → List ℕ
 readText number place c r v e m = numbersText (number ∷ place ∷ c ∷ r ∷ v ∷ e ∷ m ∷ []) ++ newline
@@ -13,5 +14,5 @@ readText number place c r v e m = numbersText (number ∷ place ∷ c ∷ r ∷ 
 unfoldable pub lineText : List ℕ → List ℕ
 lineText part = hexText part ++ newline
 
-unfoldable pub solveText : ℕ → ℕ → ℕ → List ℕ → List ℕ
-solveText number count place out = numbersText (number ∷ count ∷ place ∷ []) ++ (space ++ (hexText out ++ newline))
+unfoldable pub solveText : Handed → List ℕ → List ℕ
+solveText a out = answerText a ++ (space ++ (hexText out ++ newline))

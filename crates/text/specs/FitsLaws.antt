@@ -18,6 +18,7 @@ use Rattle.bounds.specs.Bounds.{maxAtoms, maxVariables, setBytes}
 use Rattle.el.specs.Test.{bit, everyOf}
 use Rattle.el.specs.TestLaws.{and-left, and-right, everyOf-at}
 use Rattle.el.specs.Table.{Filler, topF, constantF, variableF, Row, rowAt, atoms, fillerDeclared, rowDeclared, lineDeclared, declared}
+use Rattle.answer.specs.declared.Handed.{Handed}
 use Rattle.table.specs.Reading.{Reading, refusal, readable, reading, theTable, tableOf, isReadable}
 use Rattle.table.specs.LayoutLaws.{layout}
 use Rattle.output.specs.Written.{setIn}
@@ -121,7 +122,7 @@ unfolding tableOf
 unreadable-none s e = go (reading s) e
   where
     go : (x : Reading) → isReadable x ≡ false → theTable x .variables ≡ 0
-    go (refusal n p) e = refl
+    go (refusal why) e = refl
     go (readable h t) e = absurd (let z : _≡_ {A = ℕ} 0 1 = cc in let w : ⊥ = omega arith in w)
 
 all-lines-length : (s : List ℕ) (a : ℕ → ℕ) (b : Bool) → isReadable (reading s) ≡ b → length (variableLines (tableOf s) a (tableOf s .variables)) ≤ maxVariables * variableRoom
@@ -141,10 +142,9 @@ under-length : (n : ℕ) (text : List ℕ) → length (underNumber n text) ≤ l
 under-length zero text = omega arith
 under-length (suc n) text = omega arith
 
-pub listing-fits : (s : List ℕ) (number count place : ℕ) (out : List ℕ) → Numbers (number ∷ count ∷ place ∷ []) → length (listingText s number count place out) ≤ listingRoom
+pub listing-fits : (s : List ℕ) (a : Handed) (out : List ℕ) → Numbers (a .number ∷ a .count ∷ a .place ∷ []) → length (listingText s a out) ≤ listingRoom
 unfolding listingText firstLine
-listing-fits s number count place out n =
-    simp length-append (omega (arith, numbers-length (number ∷ count ∷ place ∷ []) n, under-length number (solvedText (tableOf s) out), solved-length s out))
+listing-fits s a out n = simp length-append (omega (arith, numbers-length (a .number ∷ a .count ∷ a .place ∷ []) n, under-length (a .number) (solvedText (tableOf s) out), solved-length s out))
 
 ------------------------------------------------------------------ the lines of the batch program
 
@@ -156,6 +156,6 @@ pub line-fits : (part : List ℕ) → length (lineText part) ≤ 2 * length part
 unfolding lineText
 line-fits part = simp length-append (omega (arith, hex-length part))
 
-pub solve-fits : (number count place : ℕ) (out : List ℕ) → Numbers (number ∷ count ∷ place ∷ []) → length (solveText number count place out) ≤ numbersRoom 3 + 2 * length out + 3
+pub solve-fits : (a : Handed) (out : List ℕ) → Numbers (a .number ∷ a .count ∷ a .place ∷ []) → length (solveText a out) ≤ numbersRoom 3 + 2 * length out + 3
 unfolding solveText
-solve-fits number count place out n = simp length-append (omega (arith, numbers-length (number ∷ count ∷ place ∷ []) n, hex-length out))
+solve-fits a out n = simp length-append (omega (arith, numbers-length (a .number ∷ a .count ∷ a .place ∷ []) n, hex-length out))

@@ -13,7 +13,8 @@
 --   variableLine t s x   == the line of variable x, whose set is s
 --   variableLines t a n  == the lines of variables 0 to n - 1, whose sets a gives
 --   solvedText t out     == the lines of all variables, where the output holds a set for each
---   listingText s number count place out == the whole text
+--   firstLine a          == number, count and place on a line
+--   listingText s a out  == the whole text of what is handed back, with the output
 use mathlib.Core.Path.{_≡_}
 use mathlib.Core.Bool.{Bool, true, false, cond}
 use mathlib.Core.List.{List, [], _∷_, _++_, map}
@@ -23,12 +24,13 @@ use lib.ListN.{length}
 use Rattle.bounds.specs.Bounds.{setBytes}
 use Rattle.el.specs.Test.{bit}
 use Rattle.el.specs.Table.{Filler, topF, constantF, variableF, Row, Table, rowAt, atoms}
+use Rattle.answer.specs.declared.Handed.{Handed}
 use Rattle.table.specs.declared.Kind.{Kind}
 use Rattle.table.specs.declared.Kind.the-variants.{Top, Constant, Restriction, Variable, Other}
 use Rattle.table.specs.Reading.{tableOf}
 use Rattle.output.specs.Written.{setIn}
 use Rattle.text.specs.Append.{Appended}
-use Rattle.text.specs.Text.{newline, decimal, joined, any, numbersText}
+use Rattle.text.specs.Text.{newline, decimal, joined, any, answerText}
 
 abbrev pub topText : List ℕ
 topText = 0x74 ∷ 0x6F ∷ 0x70 ∷ []
@@ -105,9 +107,9 @@ underNumber zero text = text
 underNumber (suc n) text = []
 
 -- "First line: number, count, place, with single spaces."
-unfoldable pub firstLine : ℕ → ℕ → ℕ → List ℕ
-firstLine number count place = numbersText (number ∷ count ∷ place ∷ []) ++ newline
+unfoldable pub firstLine : Handed → List ℕ
+firstLine a = answerText a ++ newline
 
 -- of an unreadable table there are no variables: the first line alone
-unfoldable pub listingText : List ℕ → ℕ → ℕ → ℕ → List ℕ → List ℕ
-listingText s number count place out = firstLine number count place ++ underNumber number (solvedText (tableOf s) out)
+unfoldable pub listingText : List ℕ → Handed → List ℕ → List ℕ
+listingText s a out = firstLine a ++ underNumber (a .number) (solvedText (tableOf s) out)

@@ -6,12 +6,14 @@
 --   joined between ts  == the texts ts one after the other, with the text `between` between two
 --   any ts             == there is a text
 --   numbersText ns     == the numbers ns with single spaces
+--   answerText a       == number, count and place
 --   bytesText bs       == the bytes bs in hexadecimal, two digits each
 --   hexText bs         == the same, or `-` for none
 use mathlib.Core.Bool.{Bool, true, false, cond}
 use mathlib.Core.List.{List, [], _∷_, _++_, map}
 use Prim.Native.Nat.{ℕ, zero, suc, _+_, _/_, _%_}
 use lib.Dec.{ltb}
+use Rattle.answer.specs.declared.Handed.{Handed}
 
 abbrev pub space : List ℕ
 space = 0x20 ∷ []
@@ -45,6 +47,10 @@ any (t ∷ ts) = true
 
 unfoldable pub numbersText : List ℕ → List ℕ
 numbersText ns = joined space (map decimal ns)
+
+-- "number, count, place, with single spaces"
+abbrev pub answerText : Handed → List ℕ
+answerText a = numbersText (a .number ∷ a .count ∷ a .place ∷ [])
 
 unfoldable pub bytesText : List ℕ → List ℕ
 bytesText [] = []

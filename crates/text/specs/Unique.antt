@@ -4,15 +4,16 @@
 use mathlib.Core.Path.{_≡_}
 use mathlib.Core.List.{List}
 use Prim.Native.Nat.{ℕ}
+use Rattle.answer.specs.declared.Handed.{Handed}
 use Rattle.text.specs.Append.{Appended}
 use Rattle.text.specs.AppendLaws.{appended-unique}
 use Rattle.text.specs.Listing.{listingText}
 use Rattle.text.specs.Batch.{readText, lineText, solveText}
 
 module _ (before after later : List ℕ) (q r : ℕ) where
-  pub listing-unique : (s : List ℕ) (number count place : ℕ) (out : List ℕ) → Appended before 0 (listingText s number count place out) after q
-      → Appended before 0 (listingText s number count place out) later r → (after ≡ later) × (q ≡ r)
-  listing-unique s number count place out = appended-unique
+  pub listing-unique : (s : List ℕ) (a : Handed) (out : List ℕ) → Appended before 0 (listingText s a out) after q
+      → Appended before 0 (listingText s a out) later r → (after ≡ later) × (q ≡ r)
+  listing-unique s a out = appended-unique
 
   pub read-line-unique : (number place c r′ v e m : ℕ) → Appended before 0 (readText number place c r′ v e m) after q → Appended before 0 (readText number place c r′ v e m) later r
       → (after ≡ later) × (q ≡ r)
@@ -21,6 +22,6 @@ module _ (before after later : List ℕ) (q r : ℕ) where
   pub hex-line-unique : (part : List ℕ) → Appended before 0 (lineText part) after q → Appended before 0 (lineText part) later r → (after ≡ later) × (q ≡ r)
   hex-line-unique part = appended-unique
 
-  pub solve-line-unique : (number count place : ℕ) (out : List ℕ) → Appended before 0 (solveText number count place out) after q
-      → Appended before 0 (solveText number count place out) later r → (after ≡ later) × (q ≡ r)
-  solve-line-unique number count place out = appended-unique
+  pub solve-line-unique : (a : Handed) (out : List ℕ) → Appended before 0 (solveText a out) after q
+      → Appended before 0 (solveText a out) later r → (after ≡ later) × (q ≡ r)
+  solve-line-unique a out = appended-unique

@@ -10,13 +10,13 @@ ghost use Rattle.el.specs.Test.{bit};
 ghost use Rattle.el.specs.Table.{rowAt};
 ghost use Rattle.bounds.specs.Bounds.{setBits, setBytes};
 ghost use Rattle.table.specs.Code.{kindOf};
-ghost use Rattle.table.specs.Reading.{byteAt, reading, tableOf, isReadable, headerOf};
+ghost use Rattle.table.specs.Reading.{reading, tableOf, isReadable, headerOf};
 ghost use Rattle.text.specs.Append.{Appended};
-ghost use Rattle.text.specs.Text.{digit, decimal, numbersText, bytesText, hexText};
+ghost use Rattle.text.specs.Text.{digit, decimal, numbersText, bytesText, hexText, answerText};
 ghost use Rattle.output.specs.Written.{setIn};
 ghost use Rattle.text.specs.Listing.{codeText, rowText, atomText, atomOf, setText, variableLine, variableLines, solvedText, listingText};
 ghost use Rattle.text.specs.Batch.{readText, lineText, solveText};
-use bounds::Count;
+use answer::Handed;
 use bounds::SetNumber;
 use table::Kind;
 use table::Verdict;
@@ -94,14 +94,6 @@ fn put_numbers(numbers: &[usize], buffer: &mut [u8], at: usize) -> usize
     end
 }
 
-// A byte of a slice as a number.
-fn byte_at(bytes: &[u8], at: usize) -> usize
-    requires { ⌜ at < length (now bytes) ⌝ }
-    ensures { λ r. ⌜ (r ≡ byteAt (now (bytes .entry)) at) × (r < 256) ⌝ }
-{
-    bytes[at] as usize
-}
-
 // The bytes of a slice in hexadecimal.
 fn put_bytes(bytes: &[u8], buffer: &mut [u8], at: usize) -> usize
     ensures { λ r. ⌜ Appended (now (buffer .entry)) at (bytesText (now (bytes .entry))) (now (buffer .exit)) r ⌝ }
@@ -109,7 +101,7 @@ fn put_bytes(bytes: &[u8], buffer: &mut [u8], at: usize) -> usize
     let mut end = at;
     let mut i = 0;
     while i < bytes.len() {
-        let b = byte_at(bytes, i);
+        let b = table::wide(bytes[i]);
         end = put_byte(digit_of(b / 16), buffer, end);
         end = put_byte(digit_of(b % 16), buffer, end);
         i += 1;
@@ -152,11 +144,10 @@ fn put_row(table: &[u8], k: usize, buffer: &mut [u8], at: usize) -> usize
     requires { ⌜ T (isReadable (reading (now table))) × (k < headerOf (now table) .e) ⌝ }
     ensures { λ r. ⌜ Appended (now (buffer .entry)) at (rowText (rowAt (tableOf (now (table .entry)) .rows) k)) (now (buffer .exit)) r ⌝ }
 {
-    let place = table::HEADER + 2 * k;
-    let role = byte_at(table, place);
+    let role = table::wide(table::role_of(table, k));
     let mut end = put_named(b'r', role, buffer, at);
     end = put_byte(b'.', buffer, end);
-    put_filler(table[place + 1], buffer, end)
+    put_filler(table::filler_of(table, k), buffer, end)
 }
 
 // Atom i.
@@ -164,7 +155,8 @@ fn put_atom(table: &[u8], i: usize, buffer: &mut [u8], at: usize) -> usize
     requires { ⌜ T (isReadable (reading (now table))) × (i < headerOf (now table) .c + headerOf (now table) .e) ⌝ }
     ensures { λ r. ⌜ Appended (now (buffer .entry)) at (atomText (tableOf (now (table .entry))) i) (now (buffer .exit)) r ⌝ }
 {
-    let constants = byte_at(table, table::CONSTANTS);
+    let header = table::header_of(table);
+    let constants = table::wide(header.c);
     if i < constants {
         return put_named(b'c', i, buffer, at);
     }
@@ -212,7 +204,8 @@ fn put_set(table: &[u8], set: SetNumber, buffer: &mut [u8], at: usize) -> usize
     requires { ⌜ T (isReadable (reading (now table))) ⌝ }
     ensures { λ r. ⌜ Appended (now (buffer .entry)) at (setText (tableOf (now (table .entry))) set) (now (buffer .exit)) r ⌝ }
 {
-    let atoms = byte_at(table, table::CONSTANTS) + byte_at(table, table::RESTRICTIONS);
+    let header = table::header_of(table);
+    let atoms = table::wide(header.c) + table::wide(header.e);
     let mut later = false;
     let mut end = at;
     let mut i = 0;
@@ -255,12 +248,13 @@ fn put_solved(table: &[u8], output: &[u8], buffer: &mut [u8], at: usize) -> usiz
     ensures { λ r. ⌜ Appended (now (buffer .entry)) at (solvedText (tableOf (now (table .entry))) (now (output .entry))) (now (buffer .exit)) r ⌝ }
 {
     match table::check(table) {
-        Verdict::Refused(_, _) => {
+        Verdict::Refused(_) => {
             return at;
         }
         Verdict::Readable => {}
     }
-    let n = byte_at(table, table::VARIABLES);
+    let header = table::header_of(table);
+    let n = table::wide(header.v);
     if output.len() < bounds::SET_BYTES * n {
         return at;
     }
@@ -268,27 +262,20 @@ fn put_solved(table: &[u8], output: &[u8], buffer: &mut [u8], at: usize) -> usiz
 }
 
 // Number, count and place, with single spaces.
-fn put_answer(number: u32, count: Count, place: usize, buffer: &mut [u8], at: usize) -> usize
-    ensures { λ r. ⌜ Appended (now (buffer .entry)) at (numbersText (number ∷ count ∷ place ∷ [])) (now (buffer .exit)) r ⌝ }
+fn put_answer(a: Handed, buffer: &mut [u8], at: usize) -> usize
+    ensures { λ r. ⌜ Appended (now (buffer .entry)) at (answerText a) (now (buffer .exit)) r ⌝ }
 {
-    put_numbers(&[number as usize, count as usize, place], buffer, at)
+    put_numbers(&[a.number as usize, a.count as usize, a.place], buffer, at)
 }
 
 // The text of the solver's answer, at the start of the buffer: the first line, and for "solved" a line per variable. Returns how many
 // bytes were written: the whole text, or where it is longer than the buffer as much as fits.
-pub fn listing(
-    table: &[u8],
-    number: u32,
-    count: Count,
-    place: usize,
-    output: &[u8],
-    buffer: &mut [u8],
-) -> usize
-    ensures { λ r. ⌜ Appended (now (buffer .entry)) 0 (listingText (now (table .entry)) number count place (now (output .entry))) (now (buffer .exit)) r ⌝ }
+pub fn listing(table: &[u8], a: Handed, output: &[u8], buffer: &mut [u8]) -> usize
+    ensures { λ r. ⌜ Appended (now (buffer .entry)) 0 (listingText (now (table .entry)) a (now (output .entry))) (now (buffer .exit)) r ⌝ }
 {
-    let mut end = put_answer(number, count, place, buffer, 0);
+    let mut end = put_answer(a, buffer, 0);
     end = put_byte(b'\n', buffer, end);
-    if number != 0 {
+    if a.number != 0 {
         return end;
     }
     put_solved(table, output, buffer, end)
@@ -332,16 +319,10 @@ pub fn hex_line(part: &[u8], buffer: &mut [u8]) -> usize
 }
 
 // The solver's answer as a line, with the output.
-pub fn solve_line(
-    number: u32,
-    count: Count,
-    place: usize,
-    output: &[u8],
-    buffer: &mut [u8],
-) -> usize
-    ensures { λ r. ⌜ Appended (now (buffer .entry)) 0 (solveText number count place (now (output .entry))) (now (buffer .exit)) r ⌝ }
+pub fn solve_line(a: Handed, output: &[u8], buffer: &mut [u8]) -> usize
+    ensures { λ r. ⌜ Appended (now (buffer .entry)) 0 (solveText a (now (output .entry))) (now (buffer .exit)) r ⌝ }
 {
-    let mut end = put_answer(number, count, place, buffer, 0);
+    let mut end = put_answer(a, buffer, 0);
     end = put_byte(b' ', buffer, end);
     end = put_hex(output, buffer, end);
     put_byte(b'\n', buffer, end)

@@ -6,7 +6,7 @@ use Rattle.batch.proofs.solve_reply.Statement.{statement}
 use Rattle.batch.proofs.solve_reply.Tie as tie
 
 returns : tie.Need-returns
-returns c = solve-is (c .before .before .before .before .before .before .before .before .before .before .before .before .pre .1) _ _ _ _ (c .before .before .before .before .before .before .before .solve .result) (c .before .before .before .before .before .before .before .solve .ensures) (omega arith, (omega arith, (omega arith, tt))) (omega arith) (c .before .before .solve-line .ensures)
+returns c = solve-is (c .before .before .before .before .before .before .before .before .before .before .before .before .pre .1) _ _ _ _ (c .before .before .before .before .before .before .before .solve .result) (c .before .before .before .before .before .before .before .solve .ensures .0) (c .before .before .before .before .before .before .before .solve .ensures .1) (omega arith, (omega arith, (omega arith, tt))) (omega arith) (c .before .before .solve-line .ensures)
 
 pub solve-reply-spec : {M : Type 1} → statement M
 solve-reply-spec =

@@ -6,7 +6,7 @@ use Rattle.listing.proofs.report.Statement.{statement}
 use Rattle.listing.proofs.report.Tie as tie
 
 returns : tie.Need-returns
-returns c = report-is _ (c .before .before .before .before .before .before .solve .result) _ (c .before .before .before .before .before .before .solve .ensures) (omega arith, (omega arith, (omega arith, tt))) (c .before .before .before .before .before .before .before .before .before .before .pre) (c .before .before .listing .ensures)
+returns c = report-is _ (c .before .before .before .before .before .before .solve .result) _ (c .before .before .before .before .before .before .solve .ensures .0) (c .before .before .before .before .before .before .solve .ensures .1) (omega arith, (omega arith, (omega arith, tt))) (c .before .before .before .before .before .before .before .before .before .before .pre) (c .before .before .listing .ensures)
 
 pub report-spec : {M : Type 1} → statement M
 report-spec =

@@ -1,21 +1,19 @@
 -- `makrothel::finish` meets its contract: a law for each end of the walk.
 use borrow.Author.Needs.{needs}
 use Rattle.walk.specs.Step as step
-use Rattle.makrothel.specs.Solve.{answered}
 use Rattle.makrothel.proofs.Laws.{finish-found, finish-nothing, finish-spent}
 use Rattle.makrothel.proofs.finish.Statement.{statement}
 use Rattle.makrothel.proofs.finish.Tie as tie
 
 returns-2 : tie.Need-returns-2
-unfolding answered step.outcomeOf
+unfolding step.outcomeOf
 returns-2 c = finish-nothing _ _ (c .enum-told2 .given .1)
 
 returns-3 : tie.Need-returns-3
-unfolding answered step.outcomeOf
+unfolding step.outcomeOf
 returns-3 c = finish-spent _ _ (c .enum-told3 .given .1)
 
 returns : tie.Need-returns
-unfolding answered
 returns c = finish-found (c .before .before .before .before .before .before .before .before .before .args .walked) _ _ (c .before .before .before .before .before .before .enum-told .given .1) (c .before .before .put-all .ensures)
 
 pub finish-spec : {M : Type 1} → statement M

@@ -3,11 +3,12 @@ use mathlib.Core.Path.{_≡_}
 use Prim.Native.Nat.{_-_}
 use lib.ListN.{length, length-set}
 use borrow.Author.Needs.{needs}
+use Rattle.table.specs.Bytes.{enoughLength}
 use Rattle.reads.proofs.filled.Statement.{statement}
 use Rattle.reads.proofs.filled.Tie as tie
 
 abbrev Inv-loop : tie.InvT-loop
-Inv-loop from end step value t₀ at₀ t at = length t ≡ 699
+Inv-loop from end step value t₀ at₀ t at = length t ≡ enoughLength
 
 abbrev μ-loop : tie.MeasureT-loop
 μ-loop from end step value t₀ at₀ t at = end - at

@@ -3,12 +3,13 @@ use borrow.Author.Needs.{needs}
 use mathlib.Core.Path.{sym, _∙_}
 use native.Mathlib.Omega.{arith}
 use borrow.Author.Tests.{not-true, not-false}
-use Rattle.text.proofs.ListingLaws.{few-atoms, atom-out, atom-there}
+use Rattle.table.specs.LayoutLaws.{layout}
+use Rattle.text.proofs.ListingLaws.{atom-out, atom-there}
 use Rattle.text.proofs.put_atom_of.Statement.{statement}
 use Rattle.text.proofs.put_atom_of.Tie as tie
 
 in-set-requires : tie.Need-in-set-requires
-in-set-requires c κs = omega (arith, few-atoms _ (c .before .before .pre .0))
+in-set-requires c κs = omega (arith, layout _ (c .before .before .pre .0) .few-atoms)
 
 returns : tie.Need-returns
 returns c = atom-out _ _ _ _ (sym (c .before .in-set .ensures) ∙ not-true _ (c .if1 .taken))

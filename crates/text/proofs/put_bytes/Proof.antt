@@ -16,14 +16,8 @@ Inv-loop bytes buffer₀ at end₀ i₀ buffer end i = (i ≤ length bytes) × A
 abbrev μ-loop : tie.MeasureT-loop
 μ-loop bytes buffer₀ at end₀ i₀ buffer end i = length bytes - i
 
-loop-holds : tie.Need-loop-holds Inv-loop μ-loop
-loop-holds c = (omega arith, bytes-start (c .before .before .args .bytes .now))
-
 loop-again : tie.Need-loop-again Inv-loop μ-loop
-loop-again c = (omega arith, bytes-turn (c .before .before .before .before .before .before .before .before .before .before .before .before .before .before .before .args .bytes .now) (c .before .before .before .before .before .before .before .before .before .before .before .before .loop .i) (omega arith) (c .before .before .before .before .before .before .before .before .before .before .byte-at .ensures .0) (c .before .before .before .before .before .before .before .before .before .digit-of .ensures) (c .before .before .before .before .digit-of2 .ensures) (c .before .before .before .before .before .before .before .before .before .before .before .before .loop .inv .1) (c .before .before .before .before .before .before .before .put-byte .ensures) (c .before .before .put-byte2 .ensures))
-
-same-length : tie.Need-same-length Inv-loop μ-loop
-same-length c = appended-length (c .before .loop .inv .1)
+loop-again c = (omega arith, bytes-turn (c .before .before .before .before .before .before .before .before .before .before .before .before .before .before .before .before .args .bytes .now) (c .before .before .before .before .before .before .before .before .before .before .before .before .before .loop .i) (omega arith) (c .before .before .before .before .before .before .before .before .before .before .wide .ensures) (c .before .before .before .before .before .before .before .before .before .digit-of .ensures) (c .before .before .before .before .digit-of2 .ensures) (c .before .before .before .before .before .before .before .before .before .before .before .before .before .loop .inv .1) (c .before .before .before .before .before .before .before .put-byte .ensures) (c .before .before .put-byte2 .ensures))
 
 returns : tie.Need-returns Inv-loop μ-loop
 returns c = all-of bytesText (c .before .before .before .before .args .bytes .now) (c .before .loop .i) (omega arith) (c .before .loop .inv .1)
@@ -34,14 +28,15 @@ put-bytes-spec =
     (tie.spec
     Inv-loop
     μ-loop
-    loop-holds
+    (λ c. (omega arith, bytes-start (c .before .before .args .bytes .now)))
+    (λ c. search needs)
     (λ c κs. search needs)
-    (λ c κs. search needs)
+    (λ c κs. omega (arith, c .before .before .before .before .before .shared-slice-known .given (c .before .before .before .loop .i)))
     (λ c κs. search needs)
     (λ c κs. search needs)
     (λ c κs. search needs)
     (λ c. search needs)
     (λ c. search needs)
     loop-again
-    same-length
+    (λ c. appended-length (c .before .loop .inv .1))
     returns)

@@ -6,18 +6,17 @@
 --   reply-read, reply-line, reply-solve == the answer to a question, by its kind
 --   front, front-length   == the first bytes of an array that is filled with one byte
 use mathlib.Core.Path.{_≡_, refl, sym, ap, ap₂, _∙_}
-use mathlib.Core.Bool.{Bool, true, false, _&&_, cond}
+use mathlib.Core.Bool.{Bool, true}
 use mathlib.Core.List.{List, [], _∷_}
-use Prim.Native.Nat.{ℕ, zero, suc, _+_, _≤_, _<_, min}
+use Prim.Native.Nat.{ℕ, zero, suc, _≤_, _<_, min}
 use native.Mathlib.Omega.{arith}
-use lib.Dec.{leb, leb→le, ltb}
-use lib.ListN.{length, take, drop, replicate, length-take, length-drop, length-replicate}
+use lib.Dec.{leb, leb→le}
+use lib.ListN.{length, take, replicate, length-take, length-drop, length-replicate}
 use borrow.Author.Tests.{le-leb, lt-leb, eq-eqb, ne-eqb}
 use Rattle.io.specs.Counts.{Counts}
 use Rattle.answer.specs.declared.Handed.{Handed}
 use Rattle.answer.specs.Handed.{handed}
-use Rattle.table.specs.Reading.{byteAt, reading, isReadable, headerOf}
-use Rattle.table.specs.Layout.{lineStart}
+use Rattle.table.specs.Reading.{reading}
 use Rattle.el.specs.TestLaws.{true-is, and-right}
 use Rattle.output.specs.Written.{numberAt}
 use Rattle.text.specs.Append.{Appended}
@@ -26,7 +25,7 @@ use Rattle.text.specs.Batch.{readText, lineText, solveText}
 use Rattle.text.specs.Room.{Numbers}
 use Rattle.text.specs.FitsLaws.{read-fits, line-fits, solve-fits}
 use Rattle.makrothel.specs.declared.ReadAnswer.{ReadAnswer}
-use Rattle.makrothel.specs.Answer.{readAnswer, hasLine, linePart}
+use Rattle.makrothel.specs.Answer.{readAnswer, linePart}
 use Rattle.makrothel.specs.Solve.{answer}
 use Rattle.batch.specs.declared.Question.{Question}
 use Rattle.batch.specs.Question.{most, lineRoom, lengthBytes, questionOf, isQuestion, readReplyOf, readReply, lineReply, solveReply, reply}
@@ -61,12 +60,8 @@ at-start : {b t a u : List ℕ} {r : ℕ} → lineRoom ≤ length b → length t
 at-start {b} {t} room fits e h = let w = appended-whole h (omega arith) in ((w .0, w .1), w .2 ∙ e)
 
 part-length : (s : List ℕ) (n : ℕ) → length (linePart s n) ≤ length s
-unfolding linePart hasLine
-part-length s n = go (isReadable (reading s) && ltb n (headerOf s .m))
-  where
-    go : (x : Bool) → length (cond x (take (byteAt s (lineStart s n) + 2) (drop (lineStart s n) s)) []) ≤ length s
-    go true = simp (length-take, length-drop) (omega arith)
-    go false = omega arith
+unfolding linePart
+part-length s n = simp (length-take, length-drop) (omega arith)
 
 module _ {b after : List ℕ} {r : ℕ} (room : lineRoom ≤ length b) (s : List ℕ) where
   pub read-is : (a : ReadAnswer) → a ≡ readAnswer (reading s)

@@ -2,8 +2,7 @@
 --
 --   worked-example == what the listing program writes for it
 use mathlib.Core.Path.{_≡_, ap₂}
-use mathlib.Core.List.{List, [], _∷_, map}
-use Prim.Native.Nat.{ℕ}
+use mathlib.Core.List.{[], _∷_}
 use native.Mathlib.Omega.{arith}
 use Rattle.el.specs.Test.{bit}
 use Rattle.el.specs.Table.{rowAt, atoms}

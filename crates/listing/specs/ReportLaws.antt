@@ -5,7 +5,7 @@
 --   lines-same   == assignments that give the same sets are listed alike
 --   found-listed == THE ASSIGNMENT THAT WAS FOUND IS LISTED
 use mathlib.Core.Path.{_≡_, refl, sym, ap, ap₂, _∙_}
-use mathlib.Core.List.{List, [], _∷_, _++_}
+use mathlib.Core.List.{List, _++_}
 use Prim.Native.Nat.{ℕ, zero, suc, _+_, _*_, _^_, _≤_, _<_}
 use native.Mathlib.Omega.{arith}
 use lib.Dec.{ltb, ltb→lt}

@@ -3,24 +3,23 @@
 --   header-there  == where the verdict is "readable" the table has a header
 --   read-refused  == the reader's answer to a refused table
 --   read-readable == the reader's answer to a readable one
---   IsLine k part at == the part of line k, and where it begins
---   line-refused  == an unreadable table has no line
---   line-over     == there is no line m or more
---   line-room     == a line lies inside its table
---   line-there    == the part that is line n, and its start
---   line-part     == such a part as the promise says it
+--   line-refused, line-over, line-there == where a line lies: an unreadable table has none, there is none from m on, and else it is there
+--   line-room, span-inside == a line lies inside its table
+--   told-there, told-none == what the line call for C hands back
+--   line-part     == the part that the line call hands back
 --   finish-found, finish-nothing, finish-spent == the answer to the end of a walk
 --   solve-refused, solve-short, solve-walked == the solver's answer, by what it meets first
 use mathlib.Core.Path.{_≡_, refl, sym, ap, subst, _∙_}
 use mathlib.Core.Bool.{Bool, true, false, _&&_, cond}
-use mathlib.Core.List.{List, []}
+use mathlib.Core.List.{List, [], _∷_}
 use Prim.Native.Nat.{ℕ, _+_, _-_, _*_, _≤_, _<_}
 use native.Mathlib.Omega.{arith}
-use lib.Dec.{T, ltb}
+use lib.Dec.{T, ltb, ltb→lt}
 use lib.ListN.{length, take, drop}
 use borrow.Author.Tests.{lt-ltb, le-ltb}
 use denote.Ref.{RefT, now}
 use Rattle.bounds.specs.Bounds.{setBytes}
+use Rattle.el.specs.TestLaws.{is-true, true-is, and-left, and-right}
 use Rattle.el.specs.Table.{roleOrder}
 use Rattle.answer.specs.declared.Answer.{Answer}
 use Rattle.answer.specs.declared.Answer.the-variants.{Solved, OutputShort, Nothing, Budget}
@@ -39,7 +38,9 @@ use Rattle.walk.specs.declared.End.the-variants as End
 use Rattle.walk.specs.declared.Walked.{Walked}
 use Rattle.walk.specs.Step as step
 use Rattle.output.specs.Written.{written}
-use Rattle.makrothel.specs.Answer.{readAs, zeros, readAnswer, hasLine, linePart, lineBegin}
+use Rattle.makrothel.specs.Answer.{readAs, zeros, readAnswer, hasLine, spanIf, lineSpan, linePart}
+use Rattle.makrothel.specs.C.{lineFound, startAndLength, spanned}
+use Rattle.makrothel.specs.declared.Span.{Span}
 use Rattle.makrothel.specs.Solve.{answered, outcomeAs, readingAs, answer}
 use Rattle.makrothel.specs.Demand2.{answer-outcome}
 use Rattle.makrothel.specs.Demand1.{is-table, answer-short}
@@ -68,44 +69,68 @@ module _ (s : List ℕ) where
       go (refusal why) e q = absurd (refused-readable why q)
       go (readable h t) e q = ap (readAs (Solved 0)) (sym (readable-header s h t e .0))
 
-  -- the part of line k, and where it begins
-  abbrev IsLine : ℕ → List ℕ → ℕ → Type 0
-  IsLine k part at = (part ≡ linePart s k) × (at ≡ lineBegin s k)
+  span-by : (k : ℕ) (b : Bool) → hasLine s k ≡ b → spanIf s k b ≡ lineSpan s k
+  unfolding lineSpan
+  span-by k b e = sym (ap (spanIf s k) e)
 
-  by-test : (k : ℕ) (b : Bool) → hasLine s k ≡ b → IsLine k (cond b (take (byteAt s (lineStart s k) + 2) (drop (lineStart s k) s)) []) (cond b (lineStart s k) 0)
-  unfolding linePart lineBegin
-  by-test k b e = rw (sym e) (refl, refl)
-
-  pub line-refused : (k : ℕ) (why : Answer) → verdictOf (reading s) ≡ Refused why → IsLine k [] 0
-  line-refused k why q = by-test k false (unfold hasLine in ap (λ (x : Reading). isReadable x && ltb k (headerOf s .m)) (refused-is why q))
+  pub line-refused : (k : ℕ) (why : Answer) → verdictOf (reading s) ≡ Refused why → record { start = 0; length = 0 } ≡ lineSpan s k
+  line-refused k why q = span-by k false (unfold hasLine in ap (λ (x : Reading). isReadable x && ltb k (headerOf s .m)) (refused-is why q))
 
   module _ (ok : verdictOf (reading s) ≡ Readable) (k : ℕ) where
-    tested : (b : Bool) → ltb k (headerOf s .m) ≡ b → hasLine s k ≡ b
+    tested : hasLine s k ≡ ltb k (headerOf s .m)
     unfolding hasLine
-    tested b e = go (isReadable (reading s)) (readable-is s ok)
+    tested = rw (is-true (isReadable (reading s)) (readable-is s ok))
+
+    pub line-over : (h : Header) → h ≡ headerOf s → h .m ≤ k → record { start = 0; length = 0 } ≡ lineSpan s k
+    line-over h e l = span-by k false (tested ∙ le-ltb k (headerOf s .m) (omega (arith, ap (λ (x : Header). x .m) e)))
+
+    module _ (at : ℕ) (l : k < headerOf s .m) (a : at ≡ lineStart s k) where
+      pub line-room : at + byteAt s at + 2 ≤ length s
+      line-room = line-inside s (readable-is s ok) k at l a
+
+      pub line-there : (p : ℕ) → p ≡ byteAt s at → record { start = at; length = p + 2 } ≡ lineSpan s k
+      line-there p e = rw (e, a) (span-by k true (tested ∙ lt-ltb k (headerOf s .m) l))
+
+  -- a line lies inside its table
+  pub span-inside : (k : ℕ) → lineSpan s k .start + lineSpan s k .length ≤ length s
+  unfolding hasLine
+  span-inside k = go (hasLine s k) refl
+    where
+      go : (b : Bool) → hasLine s k ≡ b → lineSpan s k .start + lineSpan s k .length ≤ length s
+      go true e = let w = true-is (hasLine s k) e in rw (sym (span-by k true e)) (omega (arith, layout s (and-left (isReadable (reading s)) _ w) .line-in k (ltb→lt k (headerOf s .m) (and-right (isReadable (reading s)) _ w))))
+      go false e = rw (sym (span-by k false e)) (omega arith)
+
+  -- what the line call for C hands back
+  abbrev Told : ℕ → ℕ → ℕ → ℕ → Type 0
+  Told k found start size = (found ≡ lineFound s k) × (((start ∷ size ∷ []) ≡ startAndLength (lineSpan s k)) × (spanned (start ∷ size ∷ []) s ≡ linePart s k))
+
+  told : (k : ℕ) (b : Bool) → hasLine s k ≡ b → Told k (cond b 1 0) (spanIf s k b .start) (spanIf s k b .length)
+  unfolding lineFound lineSpan startAndLength spanned linePart
+  told k true e = rw e (refl, (refl, refl))
+  told k false e = rw e (refl, (refl, refl))
+
+  module _ (k : ℕ) (x : Span) (e : x ≡ lineSpan s k) where
+    pub told-there : (x .length ≡ 0 → ⊥) → Told k 1 (x .start) (x .length)
+    told-there f = go (hasLine s k) refl
       where
-        go : (x : Bool) → T x → x && ltb k (headerOf s .m) ≡ b
-        go true t = e
-        go false t = absurd t
+        go : (b : Bool) → hasLine s k ≡ b → Told k 1 (x .start) (x .length)
+        go true h = subst (λ (y : Span). Told k 1 (y .start) (y .length)) (span-by k true h ∙ sym e) (told k true h)
+        go false h = absurd (f (ap (λ (y : Span). y .length) (e ∙ sym (span-by k false h))))
 
-    pub line-over : (h : Header) → h ≡ headerOf s → h .m ≤ k → IsLine k [] 0
-    line-over h e l = by-test k false (tested false (le-ltb k (headerOf s .m) (omega (arith, ap (λ (x : Header). x .m) e))))
-
-    pub line-room : (at : ℕ) → k < headerOf s .m → at ≡ lineStart s k → at + byteAt s at + 2 ≤ length s
-    line-room at h a = line-inside s (readable-is s ok) k at h a
-
-    pub line-there : (at p : ℕ) → k < headerOf s .m → at ≡ lineStart s k → p ≡ byteAt s at → IsLine k (take (at + p + 2 - at) (drop at s)) at
-    line-there at p h a e =
-        let there = by-test k true (tested true (lt-ltb k (headerOf s .m) h)) in (
-          ap (λ (i : ℕ). take i (drop at s)) (let z : at + p + 2 - at ≡ byteAt s at + 2 = omega arith in z)
-              ∙ ap (λ (i : ℕ). take (byteAt s i + 2) (drop i s)) a
-              ∙ there .0,
-          a ∙ there .1,
-        )
+    pub told-none : x .length ≡ 0 → Told k 0 0 0
+    told-none f = go (hasLine s k) refl
+      where
+        go : (b : Bool) → hasLine s k ≡ b → Told k 0 0 0
+        go true h = absurd (omega (arith, ap (λ (y : Span). y .length) (e ∙ sym (span-by k true h))))
+        go false h = told k false h
 
 -- a part of the table that begins at the line's start, as the promise says it
-pub line-part : (t : RefT (List ℕ)) (k : ℕ) {part : List ℕ} {at : ℕ} → IsLine (now t) k part at → (part ≡ linePart (now t) k) × ((t .ptr .0 ≡ t .ptr .0) × (at + t .ptr .1 ≡ t .ptr .1 + lineBegin (now t) k))
-line-part t k {part} {at} l = (l .0, (refl, (let e : at ≡ lineBegin (now t) k = l .1 in omega arith)))
+pub line-part : (t : RefT (List ℕ)) (k : ℕ) (x : Span) → x ≡ lineSpan (now t) k
+    → (take (x .start + x .length - x .start) (drop (x .start) (now t)) ≡ linePart (now t) k) × ((t .ptr .0 ≡ t .ptr .0) × (x .start + t .ptr .1 ≡ t .ptr .1 + lineSpan (now t) k .start))
+unfolding linePart
+line-part t k x e =
+    let i : x .start ≡ lineSpan (now t) k .start = ap (λ (y : Span). y .start) e in
+    (ap (λ (n : ℕ). take n (drop (x .start) (now t))) (let z : x .start + x .length - x .start ≡ x .length = omega arith in z) ∙ ap (λ (y : Span). take (y .length) (drop (y .start) (now t))) e, (refl, omega arith))
 
 ----------------------------------------------------------------------------------------------------
 -- The end of a walk

@@ -2,17 +2,16 @@
 --
 --   placeAndCounts a == the reader's place and its counts c, r, v, e, m
 --   lineFound s n    == 1 where there is a line n, and 0 where there is none
---   lineSpan s n     == the byte where line n starts and its length, or zeros where there is none
+--   startAndLength x == the byte where a line starts and its length
 --   spanned x s      == the part of the bytes s that a start and a length name
 --   countAndPlace a  == the solver's count and place
 use mathlib.Core.Bool.{cond}
 use mathlib.Core.List.{List, [], _∷_}
-use Prim.Native.Nat.{ℕ, _+_}
+use Prim.Native.Nat.{ℕ}
 use lib.ListN.{take, drop, getD}
 use Rattle.answer.specs.declared.Handed.{Handed}
-use Rattle.table.specs.Reading.{byteAt}
-use Rattle.table.specs.Layout.{lineStart}
 use Rattle.makrothel.specs.declared.ReadAnswer.{ReadAnswer}
+use Rattle.makrothel.specs.declared.Span.{Span}
 use Rattle.makrothel.specs.Answer.{hasLine}
 
 unfoldable pub placeAndCounts : ReadAnswer → List ℕ
@@ -21,9 +20,8 @@ placeAndCounts a = a .place ∷ a .constants ∷ a .roles ∷ a .variables ∷ a
 unfoldable pub lineFound : List ℕ → ℕ → ℕ
 lineFound s n = cond (hasLine s n) 1 0
 
--- "from its left count to its right code, p + 2 bytes"
-unfoldable pub lineSpan : List ℕ → ℕ → List ℕ
-lineSpan s n = cond (hasLine s n) (lineStart s n ∷ (byteAt s (lineStart s n) + 2) ∷ []) (0 ∷ 0 ∷ [])
+unfoldable pub startAndLength : Span → List ℕ
+startAndLength x = x .start ∷ x .length ∷ []
 
 unfoldable pub spanned : List ℕ → List ℕ → List ℕ
 spanned x s = take (getD x 1 0) (drop (getD x 0 0) s)

@@ -11,7 +11,7 @@
 --   demand-1-written == under "solved" the bytes from 4v on stay, and so does the output's length
 --   demand-1-read-refused, demand-1-read == the reader's answer to bytes that are refused, and to a readable table
 use mathlib.Core.Path.{_≡_, refl, sym, ap, subst, _∙_}
-use mathlib.Core.Logic.{_↔_, _⊎_, inl, inr}
+use mathlib.Core.Logic.{_↔_, inl, inr}
 use mathlib.Core.List.{List}
 use Prim.Native.Nat.{ℕ, _*_, _≤_, _<_}
 use native.Mathlib.Omega.{arith}
@@ -20,7 +20,7 @@ use lib.ListN.{length, drop}
 use borrow.Author.Tests.{lt-ltb}
 use Rattle.bounds.specs.Bounds.{setBytes}
 use Rattle.el.specs.Table.{Table}
-use Rattle.el.specs.Assignment.{Assignment, IsAssignment}
+use Rattle.el.specs.Assignment.{IsAssignment}
 use Rattle.answer.specs.declared.Answer.{Answer}
 use Rattle.answer.specs.declared.Answer.the-variants.{Solved, OutputShort, Budget}
 use Rattle.answer.specs.Handed.{handed}

@@ -10,7 +10,7 @@
 --   demand-2-no-budget == so with budget 0 the answer is "budget", count 0
 --   demand-2-decides == within the budget some assignment is the first that solves, or none solves
 --   demand-2-solved-exactly, demand-2-none-exactly, demand-2-budget-exactly == so each is answered exactly then
-use mathlib.Core.Path.{_≡_, refl, sym, ap, subst, _∙_}
+use mathlib.Core.Path.{_≡_, sym, ap, subst, _∙_}
 use mathlib.Core.Logic.{_↔_, _⊎_, inl, inr}
 use mathlib.Core.List.{List}
 use Prim.Native.Nat.{ℕ, _*_, _≤_, _<_}
@@ -21,7 +21,7 @@ use lib.ListN.{length}
 use borrow.Author.Tests.{le-ltb}
 use Rattle.bounds.specs.Bounds.{setBytes}
 use Rattle.el.specs.Table.{Table, declared, roleOrder}
-use Rattle.el.specs.Assignment.{Assignment, IsAssignment, Solves, solves, Before}
+use Rattle.el.specs.Assignment.{Assignment, Solves, solves, Before}
 use Rattle.el.specs.Walk.{Outcome, solved, nothing, budget, outcome}
 use Rattle.el.specs.CountingLaws.{counting-order}
 use Rattle.el.specs.CountLaws.{count-some}

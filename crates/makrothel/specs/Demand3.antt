@@ -6,7 +6,7 @@
 --   demand-3-grown    == no growth of a "none" table is ever "solved", under any budget and output
 --   demand-3-widened  == no growth without new lines of a "solved" table is ever "none"
 --   demand-3-budget   == a larger budget with enough room gives the same number, count, place and bytes
-use mathlib.Core.Path.{_≡_, refl, sym, ap, subst, _∙_}
+use mathlib.Core.Path.{_≡_, sym, ap, subst, _∙_}
 use mathlib.Core.Logic.{_⊎_, inl, inr}
 use mathlib.Core.List.{List}
 use Prim.Native.Nat.{ℕ, _*_, _≤_}

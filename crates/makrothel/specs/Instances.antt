@@ -11,10 +11,9 @@ use mathlib.Core.List.{List, [], _∷_, _++_}
 use Prim.Native.Nat.{ℕ, _*_, _≤_, _<_}
 use native.Mathlib.Omega.{arith}
 use lib.Dec.{T}
-use lib.ListN.{length, drop}
+use lib.ListN.{length}
 use Rattle.bounds.specs.Bounds.{setBytes}
-use Rattle.el.specs.Test.{everyOf}
-use Rattle.el.specs.Table.{Table, roleOrder}
+use Rattle.el.specs.Table.{roleOrder}
 use Rattle.el.specs.Meaning.{Substitution, makes}
 use Rattle.el.specs.Assignment.{Assignment}
 use Rattle.answer.specs.declared.Answer.{Answer}
@@ -27,7 +26,6 @@ use Rattle.table.specs.Bytes.{countsOf, IsTable}
 use Rattle.table.specs.Refusal.{RefusedAt, header-cut}
 use Rattle.table.specs.RefusalLaws.{refused-means}
 use Rattle.output.specs.Written.{littleEndian, assignmentBytes, written}
-use Rattle.makrothel.specs.declared.ReadAnswer.{ReadAnswer}
 use Rattle.makrothel.specs.Answer.{readAnswer}
 use Rattle.makrothel.specs.Numbers.{FirstSolving, NoneSolves, N, NumberAt, refused, Said}
 use Rattle.makrothel.specs.Solve.{Answered, answered, answer}

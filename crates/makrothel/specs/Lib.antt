@@ -10,4 +10,3 @@ pub mod Demand3
 pub mod Cases
 pub mod Instances
 pub mod C
-pub mod CUnique

@@ -2,9 +2,9 @@
 ghost use mathlib.Core.Path.{_≡_};
 ghost use Rattle.answer.specs.Handed.{handed};
 ghost use Rattle.table.specs.Reading.{reading};
-ghost use Rattle.makrothel.specs.Answer.{readAnswer, linePart};
+ghost use Rattle.makrothel.specs.Answer.{readAnswer, lineSpan, linePart};
 ghost use Rattle.makrothel.specs.Solve.{answer};
-ghost use Rattle.makrothel.specs.C.{placeAndCounts, lineFound, lineSpan, spanned, countAndPlace};
+ghost use Rattle.makrothel.specs.C.{placeAndCounts, lineFound, startAndLength, spanned, countAndPlace};
 use bounds::Count;
 
 // `read`: returns the number; the place and the five counts c, r, v, e, m are in the lent array.
@@ -29,16 +29,16 @@ pub extern "C" fn makrothel_read(table: &[u8], numbers: &mut [u64; 6]) -> u32
 #[no_mangle]
 pub extern "C" fn makrothel_line(table: &[u8], n: u32, span: &mut [u64; 2]) -> u32
     ensures found { λ r. ⌜ r ≡ lineFound (now (table .entry)) n ⌝ }
-    ensures span { λ _. ⌜ now (span .exit) ≡ lineSpan (now (table .entry)) n ⌝ }
+    ensures span { λ _. ⌜ now (span .exit) ≡ startAndLength (lineSpan (now (table .entry)) n) ⌝ }
     ensures part { λ _. ⌜ spanned (now (span .exit)) (now (table .entry)) ≡ linePart (now (table .entry)) n ⌝ }
 {
-    let part = crate::line(table, n);
-    if part.len() == 0 {
+    let line = crate::line_span(table, n);
+    if line.length == 0 {
         *span = [0, 0];
         return 0;
     }
-    let start = table::line_start(table, n as usize);
-    let length = table::wide(table[start]) + 2;
+    let start = line.start;
+    let length = line.length;
     *span = [start as u64, length as u64];
     1
 }

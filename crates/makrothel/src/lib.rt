@@ -8,7 +8,7 @@ ghost use Rattle.bounds.specs.Bounds.{setBytes, maxVariables};
 ghost use Rattle.answer.specs.Handed.{handed};
 ghost use Rattle.table.specs.Reading.{reading};
 ghost use Rattle.walk.specs.Step.{outcomeOf};
-ghost use Rattle.makrothel.specs.Answer.{readAs, readAnswer, linePart, lineBegin, BeginsIn};
+ghost use Rattle.makrothel.specs.Answer.{readAs, readAnswer, lineSpan, linePart, BeginsIn};
 ghost use Rattle.makrothel.specs.Solve.{outcomeAs, answered, answer};
 use answer::Answer;
 use bounds::Count;
@@ -63,25 +63,48 @@ pub fn read(table: &[u8]) -> ReadAnswer
     }
 }
 
-// Line n as a part of the table, from its left count to its right code; an empty part where there is none.
-pub fn line<'a>(table: &'a [u8], n: u32) -> &'a [u8]
-    ensures part { λ r. ⌜ now r ≡ linePart (now (table .entry)) n ⌝ }
-    ensures place { λ r. ⌜ BeginsIn r (table .entry) (lineBegin (now (table .entry)) n) ⌝ }
+// Where a line lies in its table: the byte where it begins, and its length; zeros where there is none.
+struct Span {
+    start: usize,
+    length: usize,
+}
+
+fn line_span(table: &[u8], n: u32) -> Span
+    ensures { λ r. ⌜ r ≡ lineSpan (now (table .entry)) n ⌝ }
 {
     match table::check(table) {
         Verdict::Refused(_) => {
-            return &table[0..0];
+            return Span {
+                start: 0,
+                length: 0,
+            };
         }
         Verdict::Readable => {}
     }
     let header = table::header_of(table);
     let lines = header.m as u32;
     if lines <= n {
-        return &table[0..0];
+        return Span {
+            start: 0,
+            length: 0,
+        };
     }
     let at = table::line_start(table, n as usize);
-    let end = at + table::wide(table[at]) + 2;
-    &table[at..end]
+    Span {
+        start: at,
+        length: table::wide(table[at]) + 2,
+    }
+}
+
+// Line n as a part of the table, from its left count to its right code; an empty part where there is none.
+pub fn line<'a>(table: &'a [u8], n: u32) -> &'a [u8]
+    ensures part { λ r. ⌜ now r ≡ linePart (now (table .entry)) n ⌝ }
+    ensures place { λ r. ⌜ BeginsIn r (table .entry) (lineSpan (now (table .entry)) n .start) ⌝ }
+{
+    let span = line_span(table, n);
+    let start = span.start;
+    let end = start + span.length;
+    &table[start..end]
 }
 
 // What the solver answers: number, count and place.

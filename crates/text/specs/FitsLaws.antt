@@ -22,7 +22,7 @@ use Rattle.answer.specs.declared.Handed.{Handed}
 use Rattle.table.specs.Reading.{Reading, refusal, readable, reading, theTable, tableOf, isReadable}
 use Rattle.table.specs.LayoutLaws.{layout}
 use Rattle.output.specs.Written.{setIn}
-use Rattle.text.specs.Text.{space, decimal, behind, joined, numbersText, hexText}
+use Rattle.text.specs.Text.{space, decimal, behind, joined, numbersText}
 use Rattle.text.specs.TextLaws.{decimal-length, hex-length}
 use Rattle.text.specs.Listing.{fillerText, rowText, atomText, atomsIn, atomTexts, ampersand, conjunctionText, setText, variableLine, variableLines, solvedText, underNumber, firstLine, listingText}
 use Rattle.text.specs.Batch.{readText, lineText, solveText}

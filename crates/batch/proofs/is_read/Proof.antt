@@ -5,15 +5,12 @@ use lib.Seq.{length-take-le}
 use Rattle.batch.proofs.is_read.Statement.{statement}
 use Rattle.batch.proofs.is_read.Tie as tie
 
-slice-aggregate-read-full : tie.Need-slice-aggregate-read-full
-slice-aggregate-read-full c = sym (length-take-le (c .before .before .args .size) (c .before .before .args .table .now) (c .before .before .pre))
-
 pub is-read-spec : {M : Type 1} → statement M
 is-read-spec =
     tie.close
     (tie.spec
     (λ c. search needs)
-    slice-aggregate-read-full
+    (λ c. sym (length-take-le (c .before .before .args .size) (c .before .before .args .table .now) (c .before .before .pre)))
     (λ c κs. search needs)
     (λ c. search needs)
     (λ c. search needs))

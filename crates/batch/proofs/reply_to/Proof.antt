@@ -14,12 +14,6 @@ returns c = (c .before .before .read-reply .ensures .0, c .before .before .read-
 returns-2 : tie.Need-returns-2
 returns-2 c = (c .before .before .line-reply .ensures .0, c .before .before .line-reply .ensures .1 ∙ reply-line _ _ (omega arith))
 
-slice-aggregate-solve-reply : tie.Need-slice-aggregate-solve-reply
-slice-aggregate-solve-reply c = sym (front-length (c .before .before .before .before .before .before .before .before .args .q .room) most 0xAA (c .before .filled .result) (c .before .filled .ensures) (c .before .before .before .before .before .before .before .before .pre .0))
-
-solve-reply-requires : tie.Need-solve-reply-requires
-solve-reply-requires c κs = (let e : length (take (c .before .before .before .before .before .before .before .before .before .args .q .room) (c .before .before .filled .result)) ≡ c .before .before .before .before .before .before .before .before .before .args .q .room = front-length (c .before .before .before .before .before .before .before .before .before .args .q .room) most 0xAA (c .before .before .filled .result) (c .before .before .filled .ensures) (c .before .before .before .before .before .before .before .before .before .pre .0) in omega arith, c .before .before .before .before .before .before .before .before .before .pre .2)
-
 returns-3 : tie.Need-returns-3
 returns-3 c = (c .before .before .before .solve-reply .ensures .0, c .before .before .before .solve-reply .ensures .1 ∙ ap (solveReply _ _) (front (c .before .before .before .before .before .before .before .before .before .before .before .before .before .args .q .room) most 0xAA (c .before .before .before .before .before .before .filled .result) (c .before .before .before .before .before .before .filled .ensures) (c .before .before .before .before .before .before .before .before .before .before .before .before .before .pre .0)) ∙ reply-solve _ _ (c .before .before .before .before .before .before .before .before .before .if1 .left) (c .before .before .before .before .before .before .before .if2 .left))
 
@@ -35,7 +29,7 @@ reply-to-spec =
     returns-2
     (λ c κs. search needs)
     (λ c. search needs)
-    slice-aggregate-solve-reply
-    solve-reply-requires
+    (λ c. sym (front-length (c .before .before .before .before .before .before .before .before .args .q .room) most 0xAA (c .before .filled .result) (c .before .filled .ensures) (c .before .before .before .before .before .before .before .before .pre .0)))
+    (λ c κs. (let e : length (take (c .before .before .before .before .before .before .before .before .before .args .q .room) (c .before .before .filled .result)) ≡ c .before .before .before .before .before .before .before .before .before .args .q .room = front-length (c .before .before .before .before .before .before .before .before .before .args .q .room) most 0xAA (c .before .before .filled .result) (c .before .before .filled .ensures) (c .before .before .before .before .before .before .before .before .before .pre .0) in omega arith, c .before .before .before .before .before .before .before .before .before .pre .2))
     (λ c. search needs)
     returns-3)

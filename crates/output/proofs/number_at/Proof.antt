@@ -1,6 +1,6 @@
 -- `output::number_at` meets its contract. The invariant: the last k bytes are read. The measure is how many are left.
 use borrow.Author.Needs.{needs}
-use mathlib.Core.Path.{_≡_, refl, ap, ap₂, _∙_}
+use mathlib.Core.Path.{_≡_, refl, ap₂, _∙_}
 use Prim.Native.Nat.{ℕ, _+_, _-_, _^_, _≤_, _<_}
 use native.Mathlib.Omega.{arith}
 use Rattle.output.specs.Written.{numberAt}
@@ -17,12 +17,6 @@ abbrev μ-loop : tie.MeasureT-loop
 loop-holds : tie.Need-loop-holds Inv-loop μ-loop
 unfolding numberAt
 loop-holds c = (omega arith, refl, omega arith)
-
-mul-n : tie.Need-mul-n Inv-loop μ-loop
-mul-n c = omega (arith, number-fits (c .before .before .before .loop .k) (c .before .before .before .loop .n) (omega arith) (omega arith))
-
-add-n : tie.Need-add-n Inv-loop μ-loop
-add-n c = omega (arith, number-fits (c .before .before .before .loop .k) (c .before .before .before .loop .n) (omega arith) (omega arith))
 
 loop-again : tie.Need-loop-again Inv-loop μ-loop
 loop-again c =
@@ -51,8 +45,8 @@ number-at-spec =
     (λ c. search needs)
     (λ c. search needs)
     (λ c κs. search needs)
-    mul-n
-    add-n
+    (λ c. omega (arith, number-fits (c .before .before .before .loop .k) (c .before .before .before .loop .n) (omega arith) (omega arith)))
+    (λ c. omega (arith, number-fits (c .before .before .before .loop .k) (c .before .before .before .loop .n) (omega arith) (omega arith)))
     (λ c. search needs)
     loop-again
     returns)

@@ -8,9 +8,6 @@ use Rattle.text.proofs.ListingLaws.{atom-out, atom-there}
 use Rattle.text.proofs.put_atom_of.Statement.{statement}
 use Rattle.text.proofs.put_atom_of.Tie as tie
 
-in-set-requires : tie.Need-in-set-requires
-in-set-requires c κs = omega (arith, layout _ (c .before .before .pre .0) .few-atoms)
-
 returns : tie.Need-returns
 returns c = atom-out _ _ _ _ (sym (c .before .in-set .ensures) ∙ not-true _ (c .if1 .taken))
 
@@ -21,7 +18,7 @@ pub put-atom-of-spec : {M : Type 1} → statement M
 put-atom-of-spec =
     tie.close
     (tie.spec
-    in-set-requires
+    (λ c κs. omega (arith, layout _ (c .before .before .pre .0) .few-atoms))
     returns
     (λ c. search needs)
     (λ c κs. search needs)

@@ -5,9 +5,6 @@ use Rattle.text.proofs.Laws.{between-later, between-first}
 use Rattle.text.proofs.put_between.Statement.{statement}
 use Rattle.text.proofs.put_between.Tie as tie
 
-same-length : tie.Need-same-length
-same-length c = appended-length (c .before .before .put-text .ensures)
-
 returns : tie.Need-returns
 returns c = between-later _ _ (c .before .before .before .before .if1 .taken) (c .before .before .put-text .ensures)
 
@@ -15,4 +12,4 @@ returns-2 : tie.Need-returns-2
 returns-2 c = between-first _ _ (c .if1 .left)
 
 pub put-between-spec : {M : Type 1} → statement M
-put-between-spec = tie.close (tie.spec (λ c κs. search needs) same-length returns returns-2)
+put-between-spec = tie.close (tie.spec (λ c κs. search needs) (λ c. appended-length (c .before .before .put-text .ensures)) returns returns-2)

@@ -16,14 +16,8 @@ Inv-loop numbers buffer₀ at end₀ i₀ t6 buffer end i = (i ≤ length number
 abbrev μ-loop : tie.MeasureT-loop
 μ-loop numbers buffer₀ at end₀ i₀ t6 buffer end i = length numbers - i
 
-loop-holds : tie.Need-loop-holds Inv-loop μ-loop
-loop-holds c = (omega arith, numbers-start (c .before .before .args .numbers .now))
-
 loop-again : tie.Need-loop-again Inv-loop μ-loop
 loop-again c = (omega arith, numbers-turn (c .before .before .before .before .before .before .before .before .before .before .before .before .before .before .args .numbers .now) (c .before .before .before .before .before .before .before .before .before .before .before .loop .i) (omega arith) (c .before .before .before .before .before .before .before .before .before .before .before .loop .inv .1) (c .before .before .before .before .before .before .before .put-between .ensures) (c .before .before .put-decimal .ensures))
-
-same-length : tie.Need-same-length Inv-loop μ-loop
-same-length c = appended-length (c .before .loop .inv .1)
 
 returns : tie.Need-returns Inv-loop μ-loop
 returns c = all-of numbersText (c .before .before .before .before .args .numbers .now) (c .before .loop .i) (omega arith) (c .before .loop .inv .1)
@@ -34,7 +28,7 @@ put-numbers-spec =
     (tie.spec
     Inv-loop
     μ-loop
-    loop-holds
+    (λ c. (omega arith, numbers-start (c .before .before .args .numbers .now)))
     (λ c. search needs)
     (λ c κs. search needs)
     (λ c. search needs)
@@ -43,5 +37,5 @@ put-numbers-spec =
     (λ c. search needs)
     (λ c. search needs)
     loop-again
-    same-length
+    (λ c. appended-length (c .before .loop .inv .1))
     returns)

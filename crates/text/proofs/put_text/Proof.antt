@@ -16,14 +16,8 @@ Inv-loop text buffer₀ at end₀ i₀ buffer end i = (i ≤ length text) × App
 abbrev μ-loop : tie.MeasureT-loop
 μ-loop text buffer₀ at end₀ i₀ buffer end i = length text - i
 
-loop-holds : tie.Need-loop-holds Inv-loop μ-loop
-loop-holds c = (omega arith, appended-none _ _)
-
 loop-again : tie.Need-loop-again Inv-loop μ-loop
 loop-again c = (omega arith, text-turn (c .before .before .before .before .before .before .before .before .before .args .text .now) (c .before .before .before .before .before .before .loop .i) (omega arith) (c .before .before .before .before .before .before .loop .inv .1) (c .before .before .put-byte .ensures))
-
-same-length : tie.Need-same-length Inv-loop μ-loop
-same-length c = appended-length (c .before .loop .inv .1)
 
 returns : tie.Need-returns Inv-loop μ-loop
 returns c = all-of (λ (l : List ℕ). l) (c .before .before .before .before .args .text .now) (c .before .loop .i) (omega arith) (c .before .loop .inv .1)
@@ -34,11 +28,11 @@ put-text-spec =
     (tie.spec
     Inv-loop
     μ-loop
-    loop-holds
+    (λ c. (omega arith, appended-none _ _))
     (λ c. search needs)
     (λ c κs. search needs)
     (λ c. search needs)
     (λ c. search needs)
     loop-again
-    same-length
+    (λ c. appended-length (c .before .loop .inv .1))
     returns)

@@ -18,17 +18,8 @@ Inv-loop table n output buffer₀ at end₀ x₀ buffer end x = (x ≤ n) × App
 abbrev μ-loop : tie.MeasureT-loop
 μ-loop table n output buffer₀ at end₀ x₀ buffer end x = n - x
 
-loop-holds : tie.Need-loop-holds Inv-loop μ-loop
-loop-holds c = (omega arith, lines-none _ _ _ _)
-
-put-variable-requires : tie.Need-put-variable-requires Inv-loop μ-loop
-put-variable-requires c κs = (c .before .before .before .before .before .before .pre .0, omega (arith, c .before .before .before .before .before .before .pre .1))
-
 loop-again : tie.Need-loop-again Inv-loop μ-loop
 loop-again c = (omega arith, lines-turn _ _ _ (c .before .before .before .before .before .loop .inv .1) (c .before .before .put-variable .ensures))
-
-same-length : tie.Need-same-length Inv-loop μ-loop
-same-length c = appended-length (c .before .loop .inv .1)
 
 returns : tie.Need-returns Inv-loop μ-loop
 returns c = appended-as (c .before .loop .inv .1) (ap (variableLines _ _) (let z : c .before .loop .x ≡ c .before .before .before .before .before .args .n = omega arith in z))
@@ -39,10 +30,10 @@ put-variables-spec =
     (tie.spec
     Inv-loop
     μ-loop
-    loop-holds
-    put-variable-requires
+    (λ c. (omega arith, lines-none _ _ _ _))
+    (λ c κs. (c .before .before .before .before .before .before .pre .0, omega (arith, c .before .before .before .before .before .before .pre .1)))
     (λ c. search needs)
     (λ c. search needs)
     loop-again
-    same-length
+    (λ c. appended-length (c .before .loop .inv .1))
     returns)

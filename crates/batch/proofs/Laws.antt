@@ -28,7 +28,7 @@ use Rattle.makrothel.specs.declared.ReadAnswer.{ReadAnswer}
 use Rattle.makrothel.specs.Answer.{readAnswer, linePart}
 use Rattle.makrothel.specs.Solve.{answer}
 use Rattle.batch.specs.declared.Question.{Question}
-use Rattle.batch.specs.Question.{most, lineRoom, lengthBytes, questionOf, isQuestion, readReplyOf, readReply, lineReply, solveReply, reply}
+use Rattle.batch.specs.Question.{most, lineRoom, lengthBytes, questionOf, isQuestion, readNumbers, readReply, lineReply, solveReply, reply}
 
 ------------------------------------------------------------------ questions
 
@@ -64,11 +64,9 @@ unfolding linePart
 part-length s n = simp (length-take, length-drop) (omega arith)
 
 module _ {b after : List ℕ} {r : ℕ} (room : lineRoom ≤ length b) (s : List ℕ) where
-  pub read-is : (a : ReadAnswer) → a ≡ readAnswer (reading s)
-      → Numbers (a .number ∷ a .place ∷ a .constants ∷ a .roles ∷ a .variables ∷ a .restrictions ∷ a .lines ∷ [])
-      → Appended b 0 (readText (a .number) (a .place) (a .constants) (a .roles) (a .variables) (a .restrictions) (a .lines)) after r → Counts r after × (take r after ≡ readReply s)
-  unfolding readReply readReplyOf
-  read-is a e n = at-start room (omega (arith, read-fits (a .number) (a .place) (a .constants) (a .roles) (a .variables) (a .restrictions) (a .lines) n)) (ap readReplyOf e)
+  pub read-is : (a : ReadAnswer) → a ≡ readAnswer (reading s) → Numbers (readNumbers a) → Appended b 0 (readText (readNumbers a)) after r → Counts r after × (take r after ≡ readReply s)
+  unfolding readReply
+  read-is a e n = at-start room (omega (arith, read-fits (readNumbers a) n)) (ap (λ (x : ReadAnswer). readText (readNumbers x)) e)
 
   pub line-is : (n : ℕ) (part : List ℕ) → part ≡ linePart s n → length s ≤ most → Appended b 0 (lineText part) after r → Counts r after × (take r after ≡ lineReply s n)
   unfolding lineReply

@@ -5,10 +5,11 @@
 --   headLength, numberBytes, lengthBytes == how many bytes stand before a table, and of them those of a number and of a length
 --   questionOf s     == the question that the nine bytes s begin
 --   isQuestion q     == there is such a kind, and the table is not too long
+--   readNumbers a    == what the reader answers, as numbers
 --   readReply s, lineReply s n, solveReply s b out == the answers of the three calls as lines
 --   reply q s        == the answer to the question q about the bytes s
 use mathlib.Core.Bool.{Bool, true, false, _&&_}
-use mathlib.Core.List.{List}
+use mathlib.Core.List.{List, [], _∷_}
 use Prim.Native.Nat.{ℕ, min}
 use lib.Dec.{eqb, leb}
 use lib.ListN.{getD, replicate}
@@ -47,11 +48,11 @@ unfoldable pub isQuestion : Question → Bool
 isQuestion q = leb 1 (q .kind) && (leb (q .kind) 3 && leb (q .length) most)
 
 -- `number place c r v e m`
-unfoldable pub readReplyOf : ReadAnswer → List ℕ
-readReplyOf a = readText (a .number) (a .place) (a .constants) (a .roles) (a .variables) (a .restrictions) (a .lines)
+abbrev pub readNumbers : ReadAnswer → List ℕ
+readNumbers a = a .number ∷ a .place ∷ a .constants ∷ a .roles ∷ a .variables ∷ a .restrictions ∷ a .lines ∷ []
 
 unfoldable pub readReply : List ℕ → List ℕ
-readReply s = readReplyOf (readAnswer (reading s))
+readReply s = readText (readNumbers (readAnswer (reading s)))
 
 -- the part's bytes
 unfoldable pub lineReply : List ℕ → ℕ → List ℕ

@@ -74,13 +74,15 @@ fn read_reply(table: &[u8], line: &mut [u8]) -> usize
 {
     let a = makrothel::read(table);
     text::read_line(
-        a.number,
-        a.place,
-        a.constants,
-        a.roles,
-        a.variables,
-        a.restrictions,
-        a.lines,
+        &[
+            a.number as usize,
+            a.place,
+            a.constants as usize,
+            a.roles as usize,
+            a.variables as usize,
+            a.restrictions as usize,
+            a.lines as usize,
+        ],
         line,
     )
 }

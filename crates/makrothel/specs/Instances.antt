@@ -42,17 +42,18 @@ eight = 1 ∷ 2 ∷ 3 ∷ 4 ∷ 5 ∷ 6 ∷ 7 ∷ 8 ∷ []
 ----------------------------------------------------------------------------------------------------
 -- The cases are readable, and their answers
 
-pub p5-table : IsTable (p5 .bytes) (tableOf (p5 .bytes))
+tables : IsTable (p5 .bytes) (tableOf (p5 .bytes)) × IsTable (p8 .bytes) (tableOf (p8 .bytes)) × IsTable (p12 .bytes) (tableOf (p12 .bytes))
 unfolding tableOf reading readBody readLine readEntry readRow readMany readHeader readCounts versionOne marked entryOf entryOfKind fillerOf fillerOfKind within kindOf
-p5-table = is-table (p5 .bytes) (headerOf (p5 .bytes)) (tableOf (p5 .bytes)) refl
+tables = (is-table (p5 .bytes) (headerOf (p5 .bytes)) _ refl, is-table (p8 .bytes) (headerOf (p8 .bytes)) _ refl, is-table (p12 .bytes) (headerOf (p12 .bytes)) _ refl)
+
+pub p5-table : IsTable (p5 .bytes) (tableOf (p5 .bytes))
+p5-table = tables .0
 
 pub p8-table : IsTable (p8 .bytes) (tableOf (p8 .bytes))
-unfolding tableOf reading readBody readLine readEntry readRow readMany readHeader readCounts versionOne marked entryOf entryOfKind fillerOf fillerOfKind within kindOf
-p8-table = is-table (p8 .bytes) (headerOf (p8 .bytes)) (tableOf (p8 .bytes)) refl
+p8-table = tables .1
 
 pub p12-table : IsTable (p12 .bytes) (tableOf (p12 .bytes))
-unfolding tableOf reading readBody readLine readEntry readRow readMany readHeader readCounts versionOne marked entryOf entryOfKind fillerOf fillerOfKind within kindOf
-p12-table = is-table (p12 .bytes) (headerOf (p12 .bytes)) (tableOf (p12 .bytes)) refl
+p12-table = tables .2
 
 -- how many variables they have
 variables : (tableOf (p5 .bytes) .variables ≡ 1) × (tableOf (p8 .bytes) .variables ≡ 2) × (tableOf (p12 .bytes) .variables ≡ 1)
@@ -60,13 +61,13 @@ unfolding tableOf reading readBody readLine readEntry readRow readMany readHeade
 variables = (refl, refl, refl)
 
 room-p5 : setBytes * tableOf (p5 .bytes) .variables ≤ length eight
-room-p5 = let v : tableOf (p5 .bytes) .variables ≡ 1 = variables .0 in omega arith
+room-p5 = omega (arith, variables .0)
 
 room-p8 : setBytes * tableOf (p8 .bytes) .variables ≤ length eight
-room-p8 = let v : tableOf (p8 .bytes) .variables ≡ 2 = variables .1 in omega arith
+room-p8 = omega (arith, variables .1)
 
 room-p12 : setBytes * tableOf (p12 .bytes) .variables ≤ length eight
-room-p12 = let v : tableOf (p12 .bytes) .variables ≡ 1 = variables .2 in omega arith
+room-p12 = omega (arith, variables .2)
 
 -- the answer that a case is
 is : (k : Case) (out : List ℕ) (r : Answered) (a : Answer) → handed a ≡ record { number = k .number; count = k .count; place = 0 } → Is k out r → r ≡ answered a (written (k .sets) out)
@@ -130,7 +131,7 @@ longer-answer = ap handed (demand-1-refused (p8 .bytes ++ (0 ∷ [])) 14 eight (
 
 -- P8 and an output of no bytes
 pub short-answer : Said OutputShort (answer (p8 .bytes) 14 [] .says)
-short-answer = demand-1-short (p8 .bytes) 14 [] .1 (tableOf (p8 .bytes), p8-table, (let v : tableOf (p8 .bytes) .variables ≡ 2 = variables .1 in omega arith))
+short-answer = demand-1-short (p8 .bytes) 14 [] .1 (tableOf (p8 .bytes), p8-table, omega (arith, variables .1))
 
 -- the rows of the table of answers that the cases are, and their numbers
 pub p8-row : NumberAt (p8 .bytes) 14 8 (answer (p8 .bytes) 14 eight .says)

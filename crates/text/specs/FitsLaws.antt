@@ -148,9 +148,9 @@ listing-fits s a out n = simp length-append (omega (arith, numbers-length (a .nu
 
 ------------------------------------------------------------------ the lines of the batch program
 
-pub read-fits : (number place c r v e m : ℕ) → Numbers (number ∷ place ∷ c ∷ r ∷ v ∷ e ∷ m ∷ []) → length (readText number place c r v e m) ≤ numbersRoom 7 + 1
+pub read-fits : (ns : List ℕ) → Numbers ns → length (readText ns) ≤ numbersRoom (length ns) + 1
 unfolding readText
-read-fits number place c r v e m n = simp length-append (omega (arith, numbers-length (number ∷ place ∷ c ∷ r ∷ v ∷ e ∷ m ∷ []) n))
+read-fits ns n = simp length-append (omega (arith, numbers-length ns n))
 
 pub line-fits : (part : List ℕ) → length (lineText part) ≤ 2 * length part + 2
 unfolding lineText

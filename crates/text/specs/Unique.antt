@@ -15,9 +15,8 @@ module _ (before after later : List ℕ) (q r : ℕ) where
       → Appended before 0 (listingText s a out) later r → (after ≡ later) × (q ≡ r)
   listing-unique s a out = appended-unique
 
-  pub read-line-unique : (number place c r′ v e m : ℕ) → Appended before 0 (readText number place c r′ v e m) after q → Appended before 0 (readText number place c r′ v e m) later r
-      → (after ≡ later) × (q ≡ r)
-  read-line-unique number place c r′ v e m = appended-unique
+  pub read-line-unique : (ns : List ℕ) → Appended before 0 (readText ns) after q → Appended before 0 (readText ns) later r → (after ≡ later) × (q ≡ r)
+  read-line-unique ns = appended-unique
 
   pub hex-line-unique : (part : List ℕ) → Appended before 0 (lineText part) after q → Appended before 0 (lineText part) later r → (after ≡ later) × (q ≡ r)
   hex-line-unique part = appended-unique

@@ -281,32 +281,11 @@ pub fn listing(table: &[u8], a: Handed, output: &[u8], buffer: &mut [u8]) -> usi
     put_solved(table, output, buffer, end)
 }
 
-// The reader's answer as a line.
-pub fn read_line(
-    number: u32,
-    place: usize,
-    c: u32,
-    r: u32,
-    v: u32,
-    e: u32,
-    m: u32,
-    buffer: &mut [u8],
-) -> usize
-    ensures { λ end. ⌜ Appended (now (buffer .entry)) 0 (readText number place c r v e m) (now (buffer .exit)) end ⌝ }
+// Numbers as a line: the reader's answer is number, place and the five counts.
+pub fn read_line(numbers: &[usize], buffer: &mut [u8]) -> usize
+    ensures { λ r. ⌜ Appended (now (buffer .entry)) 0 (readText (now (numbers .entry))) (now (buffer .exit)) r ⌝ }
 {
-    let end = put_numbers(
-        &[
-            number as usize,
-            place,
-            c as usize,
-            r as usize,
-            v as usize,
-            e as usize,
-            m as usize,
-        ],
-        buffer,
-        0,
-    );
+    let end = put_numbers(numbers, buffer, 0);
     put_byte(b'\n', buffer, end)
 }
 

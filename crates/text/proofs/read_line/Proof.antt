@@ -10,11 +10,4 @@ unfolding readText
 returns c = appended-then (c .before .before .before .before .before .before .put-numbers .ensures) (c .before .before .put-byte .ensures)
 
 pub read-line-spec : {M : Type 1} → statement M
-read-line-spec =
-    tie.close
-    (tie.spec
-    (λ c. search needs)
-    (λ c κs. search needs)
-    (λ c κs. search needs)
-    (λ c. search needs)
-    returns)
+read-line-spec = tie.close (tie.spec (λ c κs. search needs) (λ c κs. search needs) (λ c. search needs) returns)

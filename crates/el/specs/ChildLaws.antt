@@ -1,12 +1,10 @@
 -- What a child of a live node adds, read off the parent: y is the newest variable, p the parent, and the child is p with one set more.
 --
---   newly t p x w     == at the child the newest variable leads to w: directly, or over a variable that led to w at the parent
 --   Child z w         == at the child z reaches w
 --   shorten           == what leads to w at the child led there at the parent, or leads to the newest variable, and that to w
 --   newly-means       == so the newest variable reaches w exactly if it does so newly
 --   child-acyclic     == the child of an acyclic node is acyclic exactly if the newest variable does not lead to itself newly
 --   child-open        == where the newest variable leads to one that is not chosen, the child is live
---   freshly t p l     == the line l has or reaches the newest variable, and is ready at every child whose newest variable leads to chosen ones
 --   child-dead        == where it leads to chosen ones only, the child is dead exactly if one of these lines fails
 use mathlib.Core.Path.{_≡_, refl, sym, ap, ap₂, subst, _∙_}
 use mathlib.Core.Bool.{Bool, true, false, _&&_, _||_, not, and-assoc}
@@ -24,17 +22,9 @@ use Rattle.el.specs.Assignment.{depends, Reaches, once, then, reaches, a
 use Rattle.el.specs.Walk.{Node, lineVariables, settled, ready, fails, dead}
 use Rattle.el.specs.TestLaws.{is-false, true-is, false-not, same-test, or-left, or-right, or-cases, and-make, and-left, and-right, anyBelow-hit, anyBelow-found, allBelow-all, allBelow-at, anyOf-found, anyOf-same, everyOf-at, everyOf-all}
 use Rattle.el.specs.ReachLaws.{reaches-join, reaches-means, reaches-declared, depends-declared, acyclic-means, depends-same}
-use Rattle.el.specs.NodeLaws.{set-stays, append-adds, reaches-stays, depends-unchosen, settled-chosen, settled-reached, settled-make, noLine}
-use Rattle.el.specs.FreshLaws.{childOf, child-length, touches, dead-fresh}
-
-unfoldable pub newly : Table → Node → ℕ → ℕ → Bool
-newly t p x w =
-    depends t (childOf p x) (length p) w || anyBelow (t .variables) (λ u. depends t (childOf p x) (length p) u && reaches t p u w)
-
-unfoldable pub freshly : Table → Node → Line → Bool
-freshly t p l =
-    anyOf (λ z. eqb z (length p) || reaches t p z (length p)) (lineVariables (t .rows) l)
-    && everyOf (λ z. eqb z (length p) || (ltb z (length p) && allBelow (t .variables) (λ w. not (reaches t p z w) || leb w (length p)))) (lineVariables (t .rows) l)
+use Rattle.el.specs.NodeLaws.{set-stays, append-adds, reaches-stays, depends-unchosen, settled-chosen, settled-reached, settled-make}
+use Rattle.el.specs.FreshLaws.{child-length, dead-fresh}
+use Rattle.el.specs.Below.{noLine, childOf, touches, newly, freshly}
 
 module _ (t : Table) (known : T (declared t)) (p : Node) (x : ℕ) where
   abbrev pub Child : ℕ → ℕ → Type 0

@@ -1,11 +1,7 @@
--- Every full node in counting order, and what the first of them that passes a test says.
+-- What the first full node that passes a test says.
 --
---   extensions w r s == the nodes that choose r sets below w more than s, in counting order
---   Choices w r l    == l is r set numbers below w
---   keep p l         == those elements of l that pass p
 --   keep-append, keep-inTurn == of two lists, and of lists in turn
 --   orElse a b       == a, or b where a is none
---   FirstSays r s o  == o is the least of the extensions that passes, or none where none does
 --   first-same       == two lists that keep the same have the same first
 --   first-least      == the first of the extensions that passes a test is the least in counting order that does; where there is none, none does
 --   live-full        == where a dead node hides nothing, the live full nodes of a tree are the extensions that pass
@@ -20,20 +16,7 @@ use native.Mathlib.Decide.{ℕ-discrete}
 use lib.ListN.{length, length-append}
 use Rattle.el.specs.Assignment.{Before}
 use Rattle.el.specs.Walk.{Node, inTurn, treeOf, firstOf}
-
-unfoldable pub extensions : ℕ → ℕ → Node → List Node
-extensions w zero s = s ∷ []
-extensions w (suc r) s = inTurn w 0 (λ x. extensions w r (s ++ (x ∷ [])))
-
-abbrev pub Choices : ℕ → ℕ → List ℕ → Type 0
-Choices w zero [] = Unit {0}
-Choices w zero (x ∷ l) = ⊥
-Choices w (suc r) [] = ⊥
-Choices w (suc r) (x ∷ l) = (x < w) × Choices w r l
-
-unfoldable pub keep : (Node → Bool) → List Node → List Node
-keep p [] = []
-keep p (s ∷ l) = elim (p s) [ true ↦ s ∷ keep p l | false ↦ keep p l ]
+use Rattle.el.specs.First.{extensions, Choices, keep, FirstSays}
 
 -- ── keeping ───────────────────────────────────────────────────────────────
 pub keep-append : (p : Node → Bool) (l m : List Node) → keep p (l ++ m) ≡ keep p l ++ keep p m
@@ -106,12 +89,6 @@ first-append p (s ∷ l) m = go (p s) (first-append p l m)
     go false e = e
 
 module _ (p : Node → Bool) (w : ℕ) where
-  -- what the first of the extensions of s says
-  abbrev pub FirstSays : ℕ → Node → Option Node → Type 0
-  FirstSays r s (some a) =
-      (l : List ℕ) × Choices w r l × (a ≡ s ++ l) × (p a ≡ true) × ((m : List ℕ) → Choices w r m → p (s ++ m) ≡ true → Before m l → ⊥)
-  FirstSays r s none = (m : List ℕ) → Choices w r m → p (s ++ m) ≡ true → ⊥
-
   -- the same of the children from x on
   abbrev SaysFrom : ℕ → Node → ℕ → Option Node → Type 0
   SaysFrom r s x (some a) =
@@ -121,7 +98,7 @@ module _ (p : Node → Bool) (w : ℕ) where
 
   module _ (r : ℕ) (s : Node) where
     -- at the child x
-    one : (x : ℕ) → x < w → (o : Option Node) → FirstSays r (s ++ (x ∷ [])) o → (rest : Option Node) → SaysFrom r s (x + 1) rest → SaysFrom r s x (orElse o rest)
+    one : (x : ℕ) → x < w → (o : Option Node) → FirstSays p w r (s ++ (x ∷ [])) o → (rest : Option Node) → SaysFrom r s (x + 1) rest → SaysFrom r s x (orElse o rest)
     one x h (some a) f rest g =
         (x, f .0, omega arith, h, f .1, f .2 ∙ append-assoc s (x ∷ []) (f .0), f .3, least)
       where
@@ -144,14 +121,14 @@ module _ (p : Node → Bool) (w : ℕ) where
         at z m k l c q (yes e) = f m c (subst (λ (i : Node). p i ≡ true) (sym (append-assoc s (x ∷ []) m)) (subst (λ (y : ℕ). p (s ++ (y ∷ m)) ≡ true) (sym e) q))
         at z m k l c q (no e) = g z m (omega arith) l c q
 
-    from : (f : ℕ → List Node) → ((x : ℕ) → FirstSays r (s ++ (x ∷ [])) (firstOf p (f x))) → (m x : ℕ) → x + m ≡ w → SaysFrom r s x (firstOf p (inTurn m x f))
+    from : (f : ℕ → List Node) → ((x : ℕ) → FirstSays p w r (s ++ (x ∷ [])) (firstOf p (f x))) → (m x : ℕ) → x + m ≡ w → SaysFrom r s x (firstOf p (inTurn m x f))
     unfolding inTurn
     from f h zero x e = unfold firstOf in (λ z m k l c q. omega arith)
     from f h (suc m) x e =
         subst (SaysFrom r s x) (sym (first-append p (f x) (inTurn m (x + 1) f)))
         (one x (omega arith) (firstOf p (f x)) (h x) (firstOf p (inTurn m (x + 1) f)) (from f h m (x + 1) (omega arith)))
 
-    all : (o : Option Node) → SaysFrom r s 0 o → FirstSays (suc r) s o
+    all : (o : Option Node) → SaysFrom r s 0 o → FirstSays p w (suc r) s o
     all (some a) g = (g .0 ∷ g .1, (g .3, g .4), g .5, g .6, least)
       where
         least : (m : List ℕ) → Choices w (suc r) m → p (s ++ m) ≡ true → Before m (g .0 ∷ g .1) → ⊥
@@ -164,7 +141,7 @@ module _ (p : Node → Bool) (w : ℕ) where
         nowhere (z ∷ m) c q = g z m (omega arith) (c .0) (c .1) q
 
   -- THE FIRST IS THE LEAST
-  pub first-least : (r : ℕ) (s : Node) → FirstSays r s (firstOf p (extensions w r s))
+  pub first-least : (r : ℕ) (s : Node) → FirstSays p w r s (firstOf p (extensions w r s))
   unfolding extensions
   first-least zero s = go (p s) refl
     where
@@ -182,9 +159,9 @@ module _ (p : Node → Bool) (w : ℕ) where
       miss : p s ≡ false → none ≡ firstOf p (s ∷ [])
       miss e = unfold firstOf in rw (e, firstOf)
 
-      go : (b : Bool) → p s ≡ b → FirstSays zero s (firstOf p (s ∷ []))
-      go true e = subst (FirstSays zero s) (hit e) ([], tt, sym (append-nil s), e, least)
-      go false e = subst (FirstSays zero s) (miss e) (nowhere e)
+      go : (b : Bool) → p s ≡ b → FirstSays p w zero s (firstOf p (s ∷ []))
+      go true e = subst (FirstSays p w zero s) (hit e) ([], tt, sym (append-nil s), e, least)
+      go false e = subst (FirstSays p w zero s) (miss e) (nowhere e)
   first-least (suc r) s = all r s (firstOf p (inTurn w 0 (λ x. extensions w r (s ++ (x ∷ []))))) (from r s (λ x. extensions w r (s ++ (x ∷ []))) (λ x. first-least r (s ++ (x ∷ []))) w 0 (omega arith))
 
 -- ── trees ─────────────────────────────────────────────────────────────────

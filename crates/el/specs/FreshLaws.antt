@@ -1,7 +1,5 @@
 -- At a child only lines that have or reach the newest variable can fail.
 --
---   touches t s y l  == the line l has the variable y, or a variable of it reaches y at the node s
---   childOf p x      == the node p with one set more, x
 --   child-length     == it has one variable more
 --   ready-before     == a line that is ready at a child and does not touch the newest variable is ready at the parent
 --   parent-acyclic   == the parent of an acyclic child is acyclic
@@ -22,13 +20,8 @@ use Rattle.el.specs.Assignment.{reaches, acyclic, induced}
 use Rattle.el.specs.Walk.{Node, lineVariables, settled, ready, fails, dead}
 use Rattle.el.specs.TestLaws.{is-true, true-is, false-not, same-test, or-left, or-right, and-make, and-left, and-right, anyOf-hit, anyOf-same, everyOf-at, everyOf-all}
 use Rattle.el.specs.ReachLaws.{reaches-means}
-use Rattle.el.specs.NodeLaws.{set-stays, append-adds, reaches-stays, acyclic-stays, settled-chosen, settled-reached, settled-make, holds-stays, dead-lines, noLine}
-
-unfoldable pub touches : Table → Node → ℕ → Line → Bool
-touches t s y l = anyOf (λ x. eqb x y || reaches t s x y) (lineVariables (t .rows) l)
-
-abbrev pub childOf : Node → ℕ → Node
-childOf p x = p ++ (x ∷ [])
+use Rattle.el.specs.NodeLaws.{set-stays, append-adds, reaches-stays, acyclic-stays, settled-chosen, settled-reached, settled-make, holds-stays, dead-lines}
+use Rattle.el.specs.Below.{noLine, childOf, touches}
 
 module _ (t : Table) (known : T (declared t)) (p : Node) (x : ℕ) where
   pub child-length : length (childOf p x) ≡ suc (length p)

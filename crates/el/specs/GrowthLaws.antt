@@ -1,6 +1,7 @@
 -- What growth keeps.
 --
 --   holds-grown            == a declared line says the same among more rows
+--   order-grown            == the roles of the grown table are ordered as those of the other
 --   growth-back            == a substitution for the grown table serves the other
 --   growth-same            == where no line is new, a substitution for the table serves the grown one
 --   growth-back-solving    == if the grown table has a solving assignment, so has the other
@@ -16,11 +17,15 @@ use lib.ListN.{length, List·getD-append}
 use Rattle.el.specs.Test.{everyOf}
 use Rattle.el.specs.TestLaws.{and-left, and-right, everyOf-append, everyOf-both}
 use Rattle.el.specs.Description.{meet, below}
-use Rattle.el.specs.Table.{Entry, constant, restriction, variable, Row, Line, Table, rowAt, rowDeclared, entryDeclared, lineDeclared, declared}
+use Rattle.el.specs.Table.{Entry, constant, restriction, variable, Row, Line, Table, rowAt, rowDeclared, entryDeclared, lineDeclared, declared, roleOrder}
 use Rattle.el.specs.Meaning.{Substitution, rowUnder, entryUnder, leftUnder, holds, makes}
 use Rattle.el.specs.Growth.{Grows}
 use Rattle.el.specs.Locality.{Unifiable, Solvable}
 use Rattle.el.specs.LocalityLaws.{local-iff}
+
+pub order-grown : (t u : Table) → Grows t u → roleOrder u ≡ roleOrder t
+unfolding roleOrder
+order-grown t u g = refl
 
 -- "Codes keep their meaning by this"
 module _ (t : Table) (more : List Row) (γ : Substitution) where

@@ -8,12 +8,14 @@ pub mod Walk
 pub mod Along
 pub mod ScanLaws
 pub mod StepLaws
+pub mod First
 pub mod FirstLaws
 pub mod TestLaws
 pub mod TableLaws
 pub mod ReachLaws
 pub mod Conjuncts
 pub mod OrderLaws
+pub mod Below
 pub mod NodeLaws
 pub mod OutcomeLaws
 pub mod Rank

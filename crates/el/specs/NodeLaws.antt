@@ -1,8 +1,6 @@
 -- A dead node hides no solution, and a full live node is one.
 --
 --   line-same       == a line under two substitutions that agree on its variables
---   Agrees s n      == the sets chosen at s are those of n: n lies below s, and may be any assignment
---   Adds s n        == the sets of n have every atom that those of s have
 --   set-stays       == a chosen set stays where more is chosen
 --   agrees-adds, append-adds == who agrees adds
 --   set-unchosen, depends-unchosen == a variable that is not chosen has the empty set and depends on none
@@ -10,7 +8,6 @@
 --   settled-chosen, settled-reached, settled-make == what it is to be settled
 --   induced-stays   == what a settled variable stands for stays where the chosen sets do
 --   holds-stays     == so does the truth of a ready line
---   noLine          == what stands beyond the last line
 --   dead-cyclic, dead-lines == a cyclic node is dead, and an acyclic one exactly if a line fails
 --   dead-hides      == no node below a dead one solves
 --   full-ends       == a full node ends the walk exactly if it solves
@@ -34,6 +31,7 @@ use Rattle.el.specs.TestLaws.{is-true, is-false, true-is, false-not, sam
 use Rattle.el.specs.InducedLaws.{setUnder-same}
 use Rattle.el.specs.TableLaws.{row-declared, line-declared}
 use Rattle.el.specs.ReachLaws.{reaches-declared, reaches-means, depends-reaches, reaches-trans, acyclic-means}
+use Rattle.el.specs.Below.{Agrees, Adds, noLine}
 
 ----------------------------------------------------------------------------------------------------
 -- A line under two substitutions that agree on its variables
@@ -66,12 +64,6 @@ module _ (rows : List Row) (p : ℕ → Bool) (σ τ : Substitution) (same : (x 
 
 ----------------------------------------------------------------------------------------------------
 -- A node s and one below it
-
-abbrev pub Agrees : Node → Node → Type 0
-Agrees s n = (x : ℕ) → x < length s → setOf s x ≡ setOf n x
-
-abbrev pub Adds : Node → Node → Type 0
-Adds s n = (x i : ℕ) → T (bit i (setOf s x)) → T (bit i (setOf n x))
 
 pub set-stays : (s l : Node) → Agrees s (s ++ l)
 unfolding setOf
@@ -157,10 +149,6 @@ module _ (t : Table) (known : T (declared t)) (s n : Node) (agrees : Agrees s n)
 
 ----------------------------------------------------------------------------------------------------
 -- Dead, and what ends the walk
-
--- what stands for a line where there is none
-abbrev pub noLine : Line
-noLine = record { left = []; right = constant 0 }
 
 module _ (under : ℕ → ℕ → Bool) (t : Table) where
   pub dead-cyclic : (s : Node) → acyclic t s ≡ false → dead under t s ≡ true

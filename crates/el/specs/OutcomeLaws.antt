@@ -1,11 +1,8 @@
 -- What the outcome of the walk says of the assignments that solve.
 --
---   assignments t   == the assignments of t in counting order
 --   first-solution  == the first node that ends the walk is the first assignment that solves
 --   outcome-within  == within the budget the outcome is that first assignment, or that there is none
 --   outcome-beyond  == beyond the budget it is the budget
---   Says o          == o is the first assignment that solves, or none where none does
---   OutcomeSays b o == what the outcome o says under the budget b
 --   outcome-says    == what each outcome says, and when it is given
 --   more-budget     == a larger budget gives the same outcome
 use mathlib.Core.Path.{_≡_, refl, sym, ap, subst, _∙_}
@@ -23,8 +20,9 @@ use Rattle.el.specs.Table.{Table, atoms, declared}
 use Rattle.el.specs.Assignment.{Assignment, IsAssignment, solves, Before}
 use Rattle.el.specs.Walk.{Node, dead, full, ends, subtree, nodes, firstOf, count, Outcome, solved, nothing, budget, ended, outcome}
 use Rattle.el.specs.TestLaws.{is-true, true-is, and-make, and-left, and-right}
-use Rattle.el.specs.FirstLaws.{extensions, Choices, FirstSays, first-least, first-same, live-full}
+use Rattle.el.specs.FirstLaws.{first-least, first-same, live-full}
 use Rattle.el.specs.NodeLaws.{set-stays, dead-hides, full-ends}
+use Rattle.el.specs.First.{extensions, Choices, FirstSays, assignments, SolutionSays, OutcomeSays}
 
 -- an assignment of t is a choice of as many sets as there are variables
 choices-assignment : (t : Table) (r : ℕ) (a : List ℕ) → Choices (2 ^ atoms t) r a → (length a ≡ r) × T (everyOf (λ s. ltb s (2 ^ atoms t)) a)
@@ -47,9 +45,6 @@ assignment-choices t (suc r) (x ∷ a) e h =
       assignment-choices t r a (omega arith) (and-right (ltb x (2 ^ atoms t)) (everyOf (λ s. ltb s (2 ^ atoms t)) a) h),
     )
 
-unfoldable pub assignments : Table → List Assignment
-assignments t = extensions (2 ^ atoms t) (t .variables) []
-
 module _ (under : ℕ → ℕ → Bool) (t : Table) (known : T (declared t)) where
   not-full : (s : Node) → length s < t .variables → ends under t s ≡ false
   unfolding ends full
@@ -71,18 +66,13 @@ module _ (under : ℕ → ℕ → Bool) (t : Table) (known : T (declared t)) whe
   unfolding outcome
   outcome-beyond b h = rw (lt-leb (count under t) b h, outcome)
 
-  -- what the first one says, as the specification speaks of assignments
-  abbrev pub Says : Option Assignment → Type 0
-  Says (some a) = IsAssignment t a × T (solves under t a) × ((m : Assignment) → IsAssignment t m → T (solves under t m) → Before m a → ⊥)
-  Says none = (m : Assignment) → IsAssignment t m → T (solves under t m) → ⊥
-
-  first-says : Says (firstOf (solves under t) (assignments t))
+  first-says : SolutionSays under t (firstOf (solves under t) (assignments t))
   first-says = go (firstOf (solves under t) (assignments t)) (unfold assignments in first-least (solves under t) (2 ^ atoms t) (t .variables) [])
     where
       into : (m : Assignment) → IsAssignment t m → Choices (2 ^ atoms t) (t .variables) m
       into m i = unfold IsAssignment in assignment-choices t (t .variables) m (i .0) (i .1)
 
-      go : (o : Option Assignment) → FirstSays (solves under t) (2 ^ atoms t) (t .variables) [] o → Says o
+      go : (o : Option Assignment) → FirstSays (solves under t) (2 ^ atoms t) (t .variables) [] o → SolutionSays under t o
       go (some a) f = (
         subst (IsAssignment t) (sym (f .2)) (unfold IsAssignment in choices-assignment t (t .variables) (f .0) (f .1)),
         true-is (solves under t a) (f .3),
@@ -91,21 +81,16 @@ module _ (under : ℕ → ℕ → Bool) (t : Table) (known : T (declared t)) whe
       go none f = λ m i h. f m (into m i) (is-true (solves under t m) h)
 
   -- ── what each outcome says ──────────────────────────────────────────────
-  abbrev pub OutcomeSays : ℕ → Outcome → Type 0
-  OutcomeSays b (solved n a) = (n ≡ count under t) × (n ≤ b) × Says (some a)
-  OutcomeSays b (nothing n) = (n ≡ count under t) × (n ≤ b) × Says none
-  OutcomeSays b (budget n) = (n ≡ b) × (b < count under t)
-
-  pub outcome-says : (b : ℕ) → OutcomeSays b (outcome under t b)
+  pub outcome-says : (b : ℕ) → OutcomeSays under t b (outcome under t b)
   outcome-says b = go (decLe (count under t) b)
     where
-      at : (o : Option Assignment) → Says o → count under t ≤ b → OutcomeSays b (ended (count under t) o)
+      at : (o : Option Assignment) → SolutionSays under t o → count under t ≤ b → OutcomeSays under t b (ended (count under t) o)
       at (some a) s h = (refl, h, s)
       at none s h = (refl, h, s)
 
-      go : Dec (count under t ≤ b) → OutcomeSays b (outcome under t b)
-      go (yes h) = subst (OutcomeSays b) (sym (outcome-within b h)) (at (firstOf (solves under t) (assignments t)) first-says h)
-      go (no h) = subst (OutcomeSays b) (sym (outcome-beyond b (omega arith))) (refl, omega arith)
+      go : Dec (count under t ≤ b) → OutcomeSays under t b (outcome under t b)
+      go (yes h) = subst (OutcomeSays under t b) (sym (outcome-within b h)) (at (firstOf (solves under t) (assignments t)) first-says h)
+      go (no h) = subst (OutcomeSays under t b) (sym (outcome-beyond b (omega arith))) (refl, omega arith)
 
   pub more-budget : (b c : ℕ) → count under t ≤ b → b ≤ c → outcome under t c ≡ outcome under t b
   more-budget b c h l = outcome-within c (omega arith) ∙ sym (outcome-within b h)

@@ -51,7 +51,7 @@ unfoldable pub atoms : Table → ℕ
 atoms t = t .constants + length (t .rows)
 
 -- "C has a restriction with the same role s"
-abbrev pub roleOrder : Table → ℕ → ℕ → Bool
+unfoldable pub roleOrder : Table → ℕ → ℕ → Bool
 roleOrder t = sameRole
 
 -- "k < c", "k < e", "k < v", "a role, less than r"

@@ -22,8 +22,8 @@ use Rattle.el.specs.Assignment.{acyclic, induced}
 use Rattle.el.specs.ReachLaws.{acyclic-same}
 use Rattle.el.specs.Walk.{Node, dead}
 use Rattle.el.specs.NodeLaws.{dead-cyclic}
-use Rattle.el.specs.FreshLaws.{childOf}
-use Rattle.el.specs.ChildLaws.{newly, freshly, child-acyclic, child-open, child-dead}
+use Rattle.el.specs.ChildLaws.{child-acyclic, child-open, child-dead}
+use Rattle.el.specs.Below.{childOf, newly, freshly}
 use Rattle.table.specs.Reading.{tableOf, headerOf}
 use Rattle.table.specs.Layout.{lineAt}
 use Rattle.node.specs.declared.Counts.{Counts}

@@ -24,7 +24,7 @@ use Rattle.el.specs.Table.{Table, roleOrder}
 use Rattle.el.specs.Meaning.{holds}
 use Rattle.el.specs.Assignment.{induced}
 use Rattle.el.specs.Walk.{Node}
-use Rattle.el.specs.ChildLaws.{newly, freshly}
+use Rattle.el.specs.Below.{newly, freshly}
 use Rattle.table.specs.Layout.{lineAt}
 use Rattle.node.specs.Square.{rowOf}
 use Rattle.level.specs.declared.Level.{Level}

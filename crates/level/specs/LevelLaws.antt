@@ -23,8 +23,7 @@ use Rattle.el.specs.Table.{Table, declared}
 use Rattle.el.specs.Assignment.{setOf, depends, reaches}
 use Rattle.el.specs.ReachLaws.{reaches-means, reaches-declared}
 use Rattle.el.specs.Walk.{Node, lineVariables}
-use Rattle.el.specs.FreshLaws.{childOf}
-use Rattle.el.specs.ChildLaws.{newly, freshly}
+use Rattle.el.specs.Below.{childOf, newly, freshly}
 use Rattle.table.specs.Layout.{lineAt}
 use Rattle.order.specs.BitLaws.{high-none, bit-and}
 use Rattle.node.specs.declared.Sets.{Sets}

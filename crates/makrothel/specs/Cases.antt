@@ -166,7 +166,7 @@ every [] c = tt
 every (k ∷ ks) c = (answers k (c .0), every ks (c .1))
 
 computed : Every Computes cases
-unfolding written assignmentBytes littleEndian outcome count examined firstOf upToFirst nodes treeOf inTurn ends full dead fails ready settled lineVariables chosen induced inducedTo setUnder conjoin atomUnder acyclic reaches path depends setOf holds rowAt atoms anyBelow allBelow anyOf everyOf bit sameRole tableOf reading readBody readLine readEntry readRow readMany readHeader readCounts versionOne marked entryOf entryOfKind fillerOf fillerOfKind within kindOf
+unfolding written assignmentBytes littleEndian outcome count examined firstOf upToFirst nodes treeOf inTurn ends full dead fails ready settled lineVariables chosen induced inducedTo setUnder conjoin atomUnder acyclic reaches path depends setOf holds rowAt atoms anyBelow allBelow anyOf everyOf bit roleOrder sameRole tableOf reading readBody readLine readEntry readRow readMany readHeader readCounts versionOne marked entryOf entryOfKind fillerOf fillerOfKind within kindOf
 computed = ((solved 1 [], refl, refl, (refl, refl), λ out. (refl, refl)), ((nothing 1, refl, refl, (refl, refl), λ out. (refl, refl)), ((solved 3 (1 ∷ []), refl, refl, (refl, refl), λ out. (refl, refl)), ((solved 2 (0 ∷ []), refl, refl, (refl, refl), λ out. (refl, refl)), ((nothing 3, refl, refl, (refl, refl), λ out. (refl, refl)), ((solved 3 (1 ∷ []), refl, refl, (refl, refl), λ out. (refl, refl)), ((solved 5 (3 ∷ []), refl, refl, (refl, refl), λ out. (refl, refl)), ((solved 14 (2 ∷ 1 ∷ []), refl, refl, (refl, refl), λ out. (refl, refl)), ((budget 13, refl, refl, refl, λ out. (refl, refl)), ((nothing 1, refl, refl, (refl, refl), λ out. (refl, refl)), ((solved 1 [], refl, refl, (refl, refl), λ out. (refl, refl)), ((nothing 33, refl, refl, (refl, refl), λ out. (refl, refl)), tt))))))))))))
 
 -- P1 TO P12

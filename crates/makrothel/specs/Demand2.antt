@@ -26,7 +26,8 @@ use Rattle.el.specs.Walk.{Outcome, solved, nothing, budget, outcome}
 use Rattle.el.specs.CountingLaws.{counting-order}
 use Rattle.el.specs.CountLaws.{count-some}
 use Rattle.el.specs.LocalityLaws.{solves-means}
-use Rattle.el.specs.OutcomeLaws.{OutcomeSays, outcome-says, outcome-beyond}
+use Rattle.el.specs.OutcomeLaws.{outcome-says, outcome-beyond}
+use Rattle.el.specs.First.{OutcomeSays}
 use Rattle.answer.specs.declared.Answer.{Answer}
 use Rattle.answer.specs.declared.Answer.the-variants.{Solved, Nothing, Budget}
 use Rattle.answer.specs.Handed.{handed}
@@ -86,7 +87,7 @@ module _ (s : List ℕ) (t : Table) (is : IsTable s t) (b : ℕ) (out : List ℕ
       bool : (m : Assignment) → Solves (roleOrder t) t m → T (solves (roleOrder t) t m)
       bool m = solves-means (roleOrder t) t (known s t is) m .1
 
-      go : (o : Outcome) → OutcomeSays (roleOrder t) t (known s t is) b o → answer s b out ≡ outcomeAs o out → Within
+      go : (o : Outcome) → OutcomeSays (roleOrder t) t b o → answer s b out ≡ outcomeAs o out → Within
       go (solved n a) w e =
           inl (
             a,

@@ -19,7 +19,7 @@ use Rattle.el.specs.Table.{Table, declared, roleOrder}
 use Rattle.el.specs.Meaning.{Substitution, makes}
 use Rattle.el.specs.Assignment.{Assignment, IsAssignment, induced}
 use Rattle.el.specs.LocalityLaws.{locality, solving-substitution}
-use Rattle.el.specs.GrowthLaws.{growth-back, growth-same}
+use Rattle.el.specs.GrowthLaws.{order-grown, growth-back, growth-same}
 use Rattle.answer.specs.declared.Answer.{Answer}
 use Rattle.answer.specs.declared.Answer.the-variants.{Solved, Nothing}
 use Rattle.answer.specs.Handed.{handed}
@@ -86,12 +86,16 @@ module _ (s : List ℕ) (b : ℕ) (out : List ℕ) where
 -- Growth
 
 module _ (s u : List ℕ) (grown : Grown s u) (b c : ℕ) (out more : List ℕ) where
+  -- the two tables order their roles alike
+  ordered : roleOrder (tableOf u) ≡ roleOrder (tableOf s)
+  ordered = order-grown (tableOf s) (tableOf u) (grown-grows s u grown)
+
   -- NO GROWTH OF A "NONE" TABLE IS EVER "SOLVED"
   pub demand-3-grown : Said Nothing (answer s b out .says) → Said Solved (answer u c more .says) → ⊥
   demand-3-grown e f =
       let w = none-row s b out e in
       let g = demand-3-solved u c more f in
-      demand-3-none s b out e (g .0) (growth-back (roleOrder (tableOf s)) (tableOf s) (tableOf u) (known-table s (w .0) (w .1)) (grown-grows s u grown) (g .0) (g .1))
+      demand-3-none s b out e (g .0) (growth-back (roleOrder (tableOf s)) (tableOf s) (tableOf u) (known-table s (w .0) (w .1)) (grown-grows s u grown) (g .0) (subst (λ under. T (makes under (tableOf u) (g .0))) ordered (g .1)))
 
   -- NO GROWTH WITHOUT NEW LINES OF A "SOLVED" TABLE IS EVER "NONE"
   pub demand-3-widened : SameLines s u → Said Solved (answer s b out .says) → Said Nothing (answer u c more .says) → ⊥
@@ -99,7 +103,8 @@ module _ (s u : List ℕ) (grown : Grown s u) (b c : ℕ) (out more : List ℕ) 
       let w = solved-row s b out e in
       let g = demand-3-solved s b out e in
       demand-3-none u c more f (g .0)
-      (growth-same (roleOrder (tableOf s)) (tableOf s) (tableOf u) (known-table s (w .0) (w .1)) (grown-grows s u grown) (grown-lines s u grown same) (g .0) (g .1))
+      (subst (λ under. T (makes under (tableOf u) (g .0))) (sym ordered)
+      (growth-same (roleOrder (tableOf s)) (tableOf s) (tableOf u) (known-table s (w .0) (w .1)) (grown-grows s u grown) (grown-lines s u grown same) (g .0) (g .1)))
 
 ----------------------------------------------------------------------------------------------------
 -- A larger budget

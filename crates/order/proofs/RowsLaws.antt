@@ -14,7 +14,7 @@ use lib.Seq.{getD-set-same, getD-set-other}
 use lib.Bits.{bitOr}
 use borrow.Author.Tests.{eq-eqb, ne-eqb, lt-ltb, le-ltb}
 use Rattle.bounds.specs.Bounds.{maxAtoms, setBits, setNumbers}
-use Rattle.el.specs.Description.{sameRole}
+use Rattle.el.specs.OrderLaws.{roleOrder-same, roleOrder-other}
 use Rattle.el.specs.Test.{bit}
 use Rattle.el.specs.TestLaws.{bit-none}
 use Rattle.el.specs.Table.{rowAt, roleOrder}
@@ -44,7 +44,7 @@ module _ (s : List ℕ) (j : ℕ) where
   over-hit n m a b h p q e f k = bit-or k m (1 * 2 ^ n % setNumbers) ∙ ap₂ _||_ (f k) (ap (bit k) (power-fits n h) ∙ bit-power k n) ∙ go (ℕ-discrete k n)
     where
       same : roleOrder (tableOf s) (role n) (role j) ≡ true
-      same = unfold sameRole in eq-eqb (role n) (role j) (sym p ∙ e ∙ q)
+      same = roleOrder-same (tableOf s) (role n) (role j) (sym p ∙ e ∙ q)
 
       go : Dec (k ≡ n) → (ltb k n && roleOrder (tableOf s) (role k) (role j)) || eqb k n ≡ ltb k (n + 1) && roleOrder (tableOf s) (role k) (role j)
       go (yes z) =
@@ -59,7 +59,7 @@ module _ (s : List ℕ) (j : ℕ) where
   over-miss n m a b p q e f k = f k ∙ go (ℕ-discrete k n)
     where
       other : roleOrder (tableOf s) (role n) (role j) ≡ false
-      other = unfold sameRole in ne-eqb (role n) (role j) (λ z. e (p ∙ z ∙ sym q))
+      other = roleOrder-other (tableOf s) (role n) (role j) (λ z. e (p ∙ z ∙ sym q))
 
       go : Dec (k ≡ n) → ltb k n && roleOrder (tableOf s) (role k) (role j) ≡ ltb k (n + 1) && roleOrder (tableOf s) (role k) (role j)
       go (yes z) =

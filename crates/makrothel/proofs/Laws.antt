@@ -14,7 +14,7 @@ use mathlib.Core.Bool.{Bool, true, false, _&&_, cond}
 use mathlib.Core.List.{List, [], _∷_}
 use Prim.Native.Nat.{ℕ, _+_, _-_, _*_, _≤_, _<_}
 use native.Mathlib.Omega.{arith}
-use lib.Dec.{T, ltb, ltb→lt}
+use lib.Dec.{ltb, ltb→lt}
 use lib.ListN.{length, take, drop}
 use borrow.Author.Tests.{lt-ltb, le-ltb}
 use denote.Ref.{RefT, now}
@@ -26,8 +26,7 @@ use Rattle.answer.specs.declared.Answer.the-variants.{Solved, OutputShort, Noth
 use Rattle.table.specs.declared.Header.{Header}
 use Rattle.table.specs.declared.Verdict.the-variants.{Refused, Readable}
 use Rattle.el.specs.Walk.{outcome}
-use Rattle.table.specs.Reading.{byteAt, headerLength, Reading, refusal, readable, reading, theTable, isReadable, tableOf, headerOf}
-use Rattle.table.specs.Bytes.{IsTable}
+use Rattle.table.specs.Reading.{byteAt, headerLength, Reading, refusal, readable, reading, isReadable, tableOf, headerOf}
 use Rattle.table.specs.Step.{verdictOf}
 use Rattle.table.specs.Layout.{lineStart}
 use Rattle.table.specs.LayoutLaws.{layout, readable-header, refused-readable, readable-is, line-inside}
@@ -43,7 +42,7 @@ use Rattle.makrothel.specs.C.{lineFound, startAndLength, spanned}
 use Rattle.makrothel.specs.declared.Span.{Span}
 use Rattle.makrothel.specs.Solve.{answered, outcomeAs, readingAs, answer}
 use Rattle.makrothel.specs.Demand2.{answer-outcome}
-use Rattle.makrothel.specs.Demand1.{is-table, answer-short}
+use Rattle.makrothel.specs.Demand1.{readable-table, answer-short}
 
 module _ (s : List ℕ) where
   pub header-there : verdictOf (reading s) ≡ Readable → headerLength ≤ length s
@@ -159,23 +158,15 @@ module _ (s : List ℕ) (b : ℕ) (out : List ℕ) where
   unfolding answer
   solve-refused why q = sym (ap (λ (x : Reading). readingAs x b out) (refused-is s why q))
 
-  the-table : verdictOf (reading s) ≡ Readable → IsTable s (tableOf s)
-  unfolding tableOf
-  the-table q = go (reading s) refl (readable-is s q)
-    where
-      go : (x : Reading) → reading s ≡ x → T (isReadable x) → IsTable s (theTable x)
-      go (refusal why) e ok = absurd ok
-      go (readable h t) e ok = is-table s h t e
-
   variables : verdictOf (reading s) ≡ Readable → tableOf s .variables ≡ headerOf s .v
   variables q = layout s (readable-is s q) .variables
 
   pub solve-short : (h : Header) (v : ℕ) → h ≡ headerOf s → v ≡ h .v → verdictOf (reading s) ≡ Readable → length out < setBytes * v → answered (OutputShort (setBytes * v)) out ≡ answer s b out
   solve-short h v e w q l =
       let i : tableOf s .variables ≡ v = variables q ∙ sym (w ∙ ap (λ (x : Header). x .v) e) in
-      sym (answer-short s b out (tableOf s) (the-table q) (omega arith) ∙ ap (λ (k : ℕ). answered (OutputShort (setBytes * k)) out) i)
+      sym (answer-short s b out (tableOf s) (readable-table s (readable-is s q)) (omega arith) ∙ ap (λ (k : ℕ). answered (OutputShort (setBytes * k)) out) i)
 
   pub solve-walked : (h : Header) (v : ℕ) → h ≡ headerOf s → v ≡ h .v → verdictOf (reading s) ≡ Readable → setBytes * v ≤ length out → outcomeAs (outcome (roleOrder (tableOf s)) (tableOf s) b) out ≡ answer s b out
   solve-walked h v e w q l =
       let i : tableOf s .variables ≡ v = variables q ∙ sym (w ∙ ap (λ (x : Header). x .v) e) in
-      sym (answer-outcome s (tableOf s) (the-table q) b out (omega arith))
+      sym (answer-outcome s (tableOf s) (readable-table s (readable-is s q)) b out (omega arith))

@@ -1,6 +1,6 @@
 -- DEMAND 1: every byte string, every budget and every output gets the answer that belongs to it, and a refusal changes nothing.
 --
---   is-table         == a readable input is the bytes of its table
+--   is-table, readable-table == a readable input is the bytes of its table
 --   answer-refused, answer-short == the answer to a refusal of the reader, and where the output is too short
 --   demand-1-row     == every answer is a row of the table of answers
 --   demand-1-only    == and the row that belongs to an input is its answer
@@ -16,6 +16,7 @@ use mathlib.Core.List.{List}
 use Prim.Native.Nat.{ℕ, _*_, _≤_, _<_}
 use native.Mathlib.Omega.{arith}
 use native.Mathlib.Decide.{decLe}
+use lib.Dec.{T}
 use lib.ListN.{length, drop}
 use borrow.Author.Tests.{lt-ltb}
 use Rattle.bounds.specs.Bounds.{setBytes}
@@ -25,7 +26,7 @@ use Rattle.answer.specs.declared.Answer.{Answer}
 use Rattle.answer.specs.declared.Answer.the-variants.{Solved, OutputShort, Budget}
 use Rattle.answer.specs.Handed.{handed}
 use Rattle.table.specs.declared.Header.{Header}
-use Rattle.table.specs.Reading.{Reading, refusal, readable, reading, tableOf}
+use Rattle.table.specs.Reading.{Reading, refusal, readable, reading, theTable, tableOf, isReadable}
 use Rattle.table.specs.Bytes.{countsOf, IsTable}
 use Rattle.table.specs.BytesLaws.{table-read, readable-exactly}
 use Rattle.table.specs.Refusal.{RefusedAt}
@@ -40,6 +41,14 @@ use Rattle.makrothel.specs.Demand2.{table-is, demand-2-solved, demand-2-
 -- a readable input is the bytes of its table
 pub is-table : (s : List ℕ) (h : Header) (t : Table) → reading s ≡ readable h t → IsTable s t
 is-table s h t e = readable-exactly s h t .0 e .0
+
+pub readable-table : (s : List ℕ) → T (isReadable (reading s)) → IsTable s (tableOf s)
+unfolding tableOf
+readable-table s ok = go (reading s) refl ok
+  where
+    go : (x : Reading) → reading s ≡ x → T (isReadable x) → IsTable s (theTable x)
+    go (refusal why) e ok = absurd ok
+    go (readable h t) e ok = is-table s h t e
 
 module _ (s : List ℕ) (b : ℕ) (out : List ℕ) where
   -- the answer to a refusal of the reader

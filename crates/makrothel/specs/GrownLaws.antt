@@ -1,166 +1,173 @@
 -- Growth on bytes gives growth on tables: codes keep their meaning.
 --
 --   filler-code, entry-code == a code that is allowed under two headers writes the same under both
+--   begins       == things whose bytes stand first stand first
+--   row-told, line-told == rows and lines are told from their bytes
 --   grown-grows  == the table of the grown bytes grows from the other's
 --   grown-lines  == and where no line is new it has the same lines
-use mathlib.Core.Path.{_≡_, sym, ap, ap₂, subst, _∙_}
-use mathlib.Core.List.{List, [], _++_}
+use mathlib.Core.Path.{_≡_, refl, sym, ap, ap₂, subst, _∙_}
+use mathlib.Core.Bool.{Bool}
+use mathlib.Core.List.{List, [], _∷_, _++_, flatMap, append-assoc, append-nil}
 use mathlib.Core.Option.{some, Option·none-ne-some, Option·some-injective}
-use Prim.Native.Nat.{ℕ, zero, suc, _+_, _-_, _*_, _≤_, _<_}
+use Prim.Native.Nat.{ℕ, _*_, _≤_}
 use native.Mathlib.Omega.{arith}
-use lib.ListN.{length, getD, take, drop, length-take, length-drop, take-append-drop, List·getD-append}
-use lib.Seq.{getD-take, getD-drop, ext-getD, length-take-le}
-use Rattle.el.specs.Table.{Filler, topF, constantF, variableF, Entry, constant, restriction, variable, rowAt}
+use lib.Dec.{T, ltb}
+use lib.ListN.{length, drop, drop-of-length-le}
+use lib.Seq.{take-at, drop-at, drop-drop}
+use Rattle.el.specs.Test.{everyOf}
+use Rattle.el.specs.TestLaws.{and-left, and-right}
+use Rattle.el.specs.Table.{Filler, constantF, variableF, Entry, constant, restriction, variable, Row, Line, Table, rowDeclared, entryDeclared, lineDeclared, declared}
 use Rattle.el.specs.Growth.{Grows}
 use Rattle.table.specs.declared.Kind.{Kind}
 use Rattle.table.specs.declared.Kind.the-variants.{Top, Constant, Restriction, Variable, Other}
 use Rattle.table.specs.Code.{kindOf, fillerOfKind, fillerOf, entryOfKind, entryOf}
-use Rattle.table.specs.Reading.{byteAt, headerOf, rowsAt, rowStart, fillerPlace, tableOf}
-use Rattle.table.specs.Layout.{lineAt, lineStart, Layout}
-use Rattle.table.specs.CodeLaws.{within-some}
+use Rattle.table.specs.Reading.{headerLength, reading, isReadable, tableOf}
+use Rattle.table.specs.Bytes.{fillerCode, entryCode, writtenHeader, writtenRow, writtenEntry, writtenLine, bytesWith, countsOf, bytesOf, IsTable}
+use Rattle.table.specs.Layout.{Layout}
+use Rattle.table.specs.CodeLaws.{within-some, filler-is, entry-is}
 use Rattle.table.specs.LayoutLaws.{layout}
 use Rattle.makrothel.specs.Grown.{rowBytes, lineBytes, Grown, SameLines}
+use Rattle.makrothel.specs.Demand1.{readable-table}
 
 ----------------------------------------------------------------------------------------------------
 -- Codes keep their meaning
 
-filler-kind : (c v d w : ℕ) (k : Kind) (f g : Filler) → fillerOfKind c v k ≡ some f → fillerOfKind d w k ≡ some g → f ≡ g
-unfolding fillerOfKind
-filler-kind c v d w Top f g p q = Option·some-injective f g (sym p ∙ q)
-filler-kind c v d w (Constant k) f g p q = sym (within-some k c (constantF k) f p .1) ∙ within-some k d (constantF k) g q .1
-filler-kind c v d w (Restriction k) f g p q = absurd (Option·none-ne-some f p)
-filler-kind c v d w (Variable k) f g p q = sym (within-some k v (variableF k) f p .1) ∙ within-some k w (variableF k) g q .1
-filler-kind c v d w Other f g p q = absurd (Option·none-ne-some f p)
-
 pub filler-code : (c v d w b : ℕ) (f g : Filler) → fillerOf c v b ≡ some f → fillerOf d w b ≡ some g → f ≡ g
-unfolding fillerOf
-filler-code c v d w b f g p q = filler-kind c v d w (kindOf b) f g p q
-
-entry-kind : (c e v d i w : ℕ) (k : Kind) (f g : Entry) → entryOfKind c e v k ≡ some f → entryOfKind d i w k ≡ some g → f ≡ g
-unfolding entryOfKind
-entry-kind c e v d i w Top f g p q = absurd (Option·none-ne-some f p)
-entry-kind c e v d i w (Constant k) f g p q = sym (within-some k c (constant k) f p .1) ∙ within-some k d (constant k) g q .1
-entry-kind c e v d i w (Restriction k) f g p q = sym (within-some k e (restriction k) f p .1) ∙ within-some k i (restriction k) g q .1
-entry-kind c e v d i w (Variable k) f g p q = sym (within-some k v (variable k) f p .1) ∙ within-some k w (variable k) g q .1
-entry-kind c e v d i w Other f g p q = absurd (Option·none-ne-some f p)
+unfolding fillerOf fillerOfKind
+filler-code c v d w b f g = go (kindOf b)
+  where
+    go : (k : Kind) → fillerOfKind c v k ≡ some f → fillerOfKind d w k ≡ some g → f ≡ g
+    go Top p q = Option·some-injective f g (sym p ∙ q)
+    go (Constant k) p q = sym (within-some k c (constantF k) f p .1) ∙ within-some k d (constantF k) g q .1
+    go (Restriction k) p q = absurd (Option·none-ne-some f p)
+    go (Variable k) p q = sym (within-some k v (variableF k) f p .1) ∙ within-some k w (variableF k) g q .1
+    go Other p q = absurd (Option·none-ne-some f p)
 
 pub entry-code : (c e v d i w b : ℕ) (f g : Entry) → entryOf c e v b ≡ some f → entryOf d i w b ≡ some g → f ≡ g
-unfolding entryOf
-entry-code c e v d i w b f g p q = entry-kind c e v d i w (kindOf b) f g p q
+unfolding entryOf entryOfKind
+entry-code c e v d i w b f g = go (kindOf b)
+  where
+    go : (k : Kind) → entryOfKind c e v k ≡ some f → entryOfKind d i w k ≡ some g → f ≡ g
+    go Top p q = absurd (Option·none-ne-some f p)
+    go (Constant k) p q = sym (within-some k c (constant k) f p .1) ∙ within-some k d (constant k) g q .1
+    go (Restriction k) p q = sym (within-some k e (restriction k) f p .1) ∙ within-some k i (restriction k) g q .1
+    go (Variable k) p q = sym (within-some k v (variable k) f p .1) ∙ within-some k w (variable k) g q .1
+    go Other p q = absurd (Option·none-ne-some f p)
+
+----------------------------------------------------------------------------------------------------
+-- What is written first among bytes is first among what they write
+
+-- things of a kind, written by w and right by the tests p and q, are told from their bytes, and so is what stands behind
+abbrev Told : {A : Type 0} → (A → List ℕ) → (A → Bool) → (A → Bool) → Type 0
+Told {A} w p q = (x y : A) → T (p x) → T (q y) → (l m : List ℕ) → w y ++ m ≡ w x ++ l → (y ≡ x) × (m ≡ l)
+
+begins : {A : Type 0} (w : A → List ℕ) (p q : A → Bool) → Told w p q → (xs ys : List A) → T (everyOf p xs) → T (everyOf q ys) → length xs ≤ length ys
+    → (l m : List ℕ) → flatMap w ys ++ m ≡ flatMap w xs ++ l → (ys ≡ xs ++ drop (length xs) ys) × (flatMap w (drop (length xs) ys) ++ m ≡ l)
+unfolding everyOf flatMap
+begins w p q told [] ys a b h l m e = (refl, e)
+begins w p q told (x ∷ xs) [] a b h l m e = absurd (let z : ⊥ = omega arith in z)
+begins w p q told (x ∷ xs) (y ∷ ys) a b h l m e =
+    let t = told x y (and-left (p x) _ a) (and-left (q y) _ b) (flatMap w xs ++ l) (flatMap w ys ++ m) (sym (append-assoc (w y) _ m) ∙ e ∙ append-assoc (w x) _ l) in
+    let r = begins w p q told xs ys (and-right (p x) _ a) (and-right (q y) _ b) (omega arith) l m (t .1) in
+    (ap₂ _∷_ (t .0) (r .0), r .1)
+
+module _ (t u : Table) (few-t : t .constants ≤ 0x20) (few-u : u .constants ≤ 0x20) (rows-t : length (t .rows) ≤ 0x20) (rows-u : length (u .rows) ≤ 0x20) where
+  row-told : Told writtenRow (rowDeclared t) (rowDeclared u)
+  unfolding writtenRow
+  row-told x y a b l m e =
+      let r : y .role ≡ x .role = cc in
+      let c : fillerCode (y .filler) ≡ fillerCode (x .filler) = cc in
+      let k : m ≡ l = cc in (
+        ap₂ (λ (r : ℕ) (f : Filler). record { role = r; filler = f }) r
+            (filler-code (u .constants) (u .variables) (t .constants) (t .variables) (fillerCode (x .filler)) (y .filler) (x .filler)
+            (subst (λ (i : ℕ). fillerOf (u .constants) (u .variables) i ≡ some (y .filler)) c (filler-is u few-u (y .filler) (and-right (ltb (y .role) (u .roles)) _ b)))
+            (filler-is t few-t (x .filler) (and-right (ltb (x .role) (t .roles)) _ a))),
+        k,
+      )
+
+  entry-told : Told writtenEntry (entryDeclared t) (entryDeclared u)
+  unfolding writtenEntry
+  entry-told x y a b l m e =
+      let c : entryCode y ≡ entryCode x = cc in
+      let k : m ≡ l = cc in (
+        entry-code (u .constants) (length (u .rows)) (u .variables) (t .constants) (length (t .rows)) (t .variables) (entryCode x) y x
+            (subst (λ (i : ℕ). entryOf (u .constants) (length (u .rows)) (u .variables) i ≡ some y) c (entry-is u few-u rows-u y b)) (entry-is t few-t rows-t x a),
+        k,
+      )
+
+  line-told : Told writtenLine (lineDeclared t) (lineDeclared u)
+  unfolding writtenLine writtenEntry flatMap
+  line-told x y a b l m e =
+      let n : length (y .left) ≡ length (x .left) = cc in
+      let k : (flatMap writtenEntry (y .left) ++ writtenEntry (y .right)) ++ m ≡ (flatMap writtenEntry (x .left) ++ writtenEntry (x .right)) ++ l = cc in
+      let r = begins writtenEntry (entryDeclared t) (entryDeclared u) entry-told (x .left) (y .left) (and-left (everyOf (entryDeclared t) (x .left)) _ a) (and-left (everyOf (entryDeclared u) (y .left)) _ b) (omega arith)
+      (writtenEntry (x .right) ++ l) (writtenEntry (y .right) ++ m) (sym (append-assoc (flatMap writtenEntry (y .left)) _ m) ∙ k ∙ append-assoc (flatMap writtenEntry (x .left)) _ l) in
+      let d : drop (length (x .left)) (y .left) ≡ [] = drop-of-length-le (y .left) {i = length (x .left)} (omega arith) in
+      let i = entry-told (x .right) (y .right) (and-right (everyOf (entryDeclared t) (x .left)) _ a) (and-right (everyOf (entryDeclared u) (y .left)) _ b) l m (ap (λ (z : List Entry). flatMap writtenEntry z ++ (writtenEntry (y .right) ++ m)) (sym d) ∙ r .1) in
+      (ap₂ (λ (p : List Entry) (q : Entry). record { left = p; right = q }) (r .0 ∙ ap (λ (z : List Entry). x .left ++ z) d ∙ append-nil (x .left)) (i .0), i .1)
 
 ----------------------------------------------------------------------------------------------------
 -- The rows and lines of the grown table
 
+rows-length : (rows : List Row) → length (flatMap writtenRow rows) ≡ 2 * length rows
+unfolding writtenRow flatMap
+rows-length [] = refl
+rows-length (row ∷ rows) = omega (arith, rows-length rows)
+
+-- the bytes of the rows and of the lines are those rows and lines, written
+written-parts : (t : Table) → (rowBytes (bytesOf t) ≡ flatMap writtenRow (t .rows)) × (lineBytes (bytesOf t) ≡ flatMap writtenLine (t .lines))
+unfolding rowBytes lineBytes bytesOf bytesWith writtenHeader countsOf
+written-parts t = (
+  take-at (flatMap writtenRow (t .rows)) _ _ (rows-length (t .rows)),
+  sym (drop-drop (2 * length (t .rows)) headerLength (bytesOf t)) ∙ drop-at (flatMap writtenRow (t .rows)) _ _ (rows-length (t .rows)),
+)
+
+module _ (s : List ℕ) (ok : T (isReadable (reading s))) where
+  few : (tableOf s .constants ≤ 0x20) × (length (tableOf s .rows) ≤ 0x20)
+  few = (omega (arith, layout s ok .constants, layout s ok .few-atoms), omega (arith, layout s ok .rows, layout s ok .few-atoms))
+
+  parts : (rowBytes s ≡ flatMap writtenRow (tableOf s .rows)) × (lineBytes s ≡ flatMap writtenLine (tableOf s .lines))
+  unfolding IsTable
+  parts = subst (λ (x : List ℕ). (rowBytes x ≡ flatMap writtenRow (tableOf s .rows)) × (lineBytes x ≡ flatMap writtenLine (tableOf s .lines))) (sym (readable-table s ok .0)) (written-parts (tableOf s))
+
+  right : T (everyOf (rowDeclared (tableOf s)) (tableOf s .rows)) × T (everyOf (lineDeclared (tableOf s)) (tableOf s .lines))
+  unfolding declared
+  right = let d = layout s ok .all-declared in (and-left (everyOf (rowDeclared (tableOf s)) (tableOf s .rows)) _ d, and-right (everyOf (rowDeclared (tableOf s)) (tableOf s .rows)) _ d)
+
 module _ (s u : List ℕ) (grown : Grown s u) where
+  ok : T (isReadable (reading s))
+  ok = grown .readable-before
+
+  ko : T (isReadable (reading u))
+  ko = grown .readable-after
+
   here : Layout s (tableOf s)
-  here = layout s (grown .readable-before)
+  here = layout s ok
 
   there : Layout u (tableOf u)
-  there = layout u (grown .readable-after)
-
-  row-byte : (i : ℕ) → i < 2 * headerOf s .e → rowsAt s + i < length s → byteAt u (rowsAt u + i) ≡ byteAt s (rowsAt s + i)
-  row-byte i h l =
-      let wide : headerOf s .e ≤ headerOf u .e = grown .restrictions in
-      let room : i < length (rowBytes s) = unfold rowBytes in simp (length-take, length-drop) (omega arith) in
-      sym (in-rows u (omega arith)) ∙ ap (λ (x : List ℕ). getD x i 0) (grown .rows-first .1)
-      ∙ List·getD-append (rowBytes s) (grown .rows-first .0) 0 i room ∙ in-rows s h
-    where
-      in-rows : (x : List ℕ) → i < 2 * headerOf x .e → getD (rowBytes x) i 0 ≡ byteAt x (rowsAt x + i)
-      in-rows x k = unfold rowBytes in (getD-take (2 * headerOf x .e) (drop (rowsAt x) x) i 0 k ∙ getD-drop (rowsAt x) x i 0)
-
-  row-same : (k : ℕ) → k < headerOf s .e → rowAt (tableOf u .rows) k ≡ rowAt (tableOf s .rows) k
-  row-same k h =
-      let wide : headerOf s .e ≤ headerOf u .e = grown .restrictions in
-      let long : fillerPlace s k < length s = here .row-in k h in
-      let at : (x : List ℕ) → byteAt x (fillerPlace x k) ≡ byteAt x (rowsAt x + (1 + 2 * k)) = λ x. ap (byteAt x) (let z : fillerPlace x k ≡ rowsAt x + (1 + 2 * k) = omega arith in z) in
-      let same : byteAt u (fillerPlace u k) ≡ byteAt s (fillerPlace s k) = at u ∙ row-byte (1 + 2 * k) (omega arith) (omega arith) ∙ sym (at s) in
-      ap₂ (λ (r : ℕ) (f : Filler). record { role = r; filler = f })
-      (there .row-role k (omega arith) ∙ row-byte (2 * k) (omega arith) (omega arith) ∙ sym (here .row-role k h))
-      (filler-code (headerOf u .c) (headerOf u .v) (headerOf s .c) (headerOf s .v) (byteAt s (fillerPlace s k)) (rowAt (tableOf u .rows) k .filler) (rowAt (tableOf s .rows) k .filler)
-      (subst (λ (b : ℕ). fillerOf (headerOf u .c) (headerOf u .v) b ≡ some (rowAt (tableOf u .rows) k .filler)) same (there .row-filler k (omega arith)))
-      (here .row-filler k h))
-
-  -- a list that agrees with another as far as that goes begins with it
-  begins : {A : Type 0} (d : A) (l m : List A) → length l ≤ length m → ((i : ℕ) → i < length l → getD m i d ≡ getD l i d) → m ≡ l ++ drop (length l) m
-  begins d l m h f =
-      sym (take-append-drop (length l) m)
-      ∙ ap (λ (x : _). x ++ drop (length l) m) (ext-getD d (take (length l) m) l (length-take-le (length l) m h)
-      (λ i k. let n : length (take (length l) m) ≡ length l = length-take-le (length l) m h in getD-take (length l) m i d (omega arith) ∙ f i (omega arith)))
+  there = layout u ko
 
   rows-begin : tableOf u .rows ≡ tableOf s .rows ++ drop (length (tableOf s .rows)) (tableOf u .rows)
   rows-begin =
-      let a = here .rows in let b = there .rows in let wide : headerOf s .e ≤ headerOf u .e = grown .restrictions in
-      begins (record { role = 0; filler = topF }) (tableOf s .rows) (tableOf u .rows) (omega arith) (λ i h. unfold rowAt in row-same i (omega arith))
-
-  -- lines: where they begin, and their bytes
-  start-late : (n : ℕ) → rowStart s (headerOf s .e) ≤ lineStart s n
-  unfolding lineStart
-  start-late zero = omega arith
-  start-late (suc n) = let h : rowStart s (headerOf s .e) ≤ lineStart s n = start-late n in omega arith
-
-  line-byte : (j k : ℕ) → rowStart s (headerOf s .e) ≤ j → j < length s → k + 2 * headerOf s .e ≡ j + 2 * headerOf u .e → byteAt u k ≡ byteAt s j
-  line-byte j k l h e = at (j - (rowStart s (headerOf s .e))) (omega arith) (omega arith)
-    where
-      at : (i : ℕ) → k ≡ rowStart u (headerOf u .e) + i → j ≡ rowStart s (headerOf s .e) + i → byteAt u k ≡ byteAt s j
-      at i p q =
-          let room : i < length (lineBytes s) = unfold lineBytes in simp length-drop (omega arith) in
-          ap (byteAt u) p ∙ sym (in-lines u) ∙ ap (λ (x : List ℕ). getD x i 0) (grown .lines-first .1)
-          ∙ List·getD-append (lineBytes s) (grown .lines-first .0) 0 i room ∙ in-lines s ∙ sym (ap (byteAt s) q)
-        where
-          in-lines : (x : List ℕ) → getD (lineBytes x) i 0 ≡ byteAt x (rowStart x (headerOf x .e) + i)
-          in-lines x = unfold lineBytes in getD-drop (rowStart x (headerOf x .e)) x i 0
-
-  start-same : (n : ℕ) → n ≤ headerOf s .m → lineStart u n + 2 * headerOf s .e ≡ lineStart s n + 2 * headerOf u .e
-  unfolding lineStart
-  start-same zero h = omega arith
-  start-same (suc n) h =
-      let e : lineStart u n + 2 * headerOf s .e ≡ lineStart s n + 2 * headerOf u .e = start-same n (omega arith) in
-      let i : lineStart s n + byteAt s (lineStart s n) + 2 ≤ length s = here .line-in n (omega arith) in
-      let p : byteAt u (lineStart u n) ≡ byteAt s (lineStart s n) = line-byte (lineStart s n) (lineStart u n) (start-late n) (omega arith) e in
-      omega arith
-
-  line-same : (n : ℕ) → n < headerOf s .m → lineAt (tableOf u .lines) n ≡ lineAt (tableOf s .lines) n
-  line-same n h =
-      let more : headerOf s .m ≤ headerOf u .m = grown .lines in
-      let e : lineStart u n + 2 * headerOf s .e ≡ lineStart s n + 2 * headerOf u .e = start-same n (omega arith) in
-      let i : lineStart s n + byteAt s (lineStart s n) + 2 ≤ length s = here .line-in n h in
-      let low : rowStart s (headerOf s .e) ≤ lineStart s n = start-late n in
-      let p : byteAt u (lineStart u n) ≡ byteAt s (lineStart s n) = line-byte (lineStart s n) (lineStart u n) low (omega arith) e in
-      let a : length (lineAt (tableOf s .lines) n .left) ≡ byteAt s (lineStart s n) = here .line-left n h in
-      let b : length (lineAt (tableOf u .lines) n .left) ≡ byteAt u (lineStart u n) = there .line-left n (omega arith) in
-      ap₂ (λ (l : List Entry) (r : Entry). record { left = l; right = r })
-      (ext-getD (constant 0) (lineAt (tableOf u .lines) n .left) (lineAt (tableOf s .lines) n .left) (omega arith)
-      (λ k l. entry-code (headerOf u .c) (headerOf u .e) (headerOf u .v) (headerOf s .c) (headerOf s .e) (headerOf s .v) (byteAt s (lineStart s n + 1 + k))
-      (getD (lineAt (tableOf u .lines) n .left) k (constant 0)) (getD (lineAt (tableOf s .lines) n .left) k (constant 0))
-      (subst (λ (x : ℕ). entryOf (headerOf u .c) (headerOf u .e) (headerOf u .v) x ≡ some (getD (lineAt (tableOf u .lines) n .left) k (constant 0)))
-      (line-byte (lineStart s n + 1 + k) (lineStart u n + 1 + k) (omega arith) (omega arith) (omega arith)) (there .line-entry n k (omega arith) (omega arith)))
-      (here .line-entry n k h (omega arith))))
-      (entry-code (headerOf u .c) (headerOf u .e) (headerOf u .v) (headerOf s .c) (headerOf s .e) (headerOf s .v) (byteAt s (lineStart s n + 1 + byteAt s (lineStart s n)))
-      (lineAt (tableOf u .lines) n .right) (lineAt (tableOf s .lines) n .right)
-      (subst (λ (x : ℕ). entryOf (headerOf u .c) (headerOf u .e) (headerOf u .v) x ≡ some (lineAt (tableOf u .lines) n .right))
-      (line-byte (lineStart s n + 1 + byteAt s (lineStart s n)) (lineStart u n + 1 + byteAt u (lineStart u n)) (omega arith) (omega arith) (omega arith)) (there .line-right n (omega arith)))
-      (here .line-right n h))
+      begins writtenRow (rowDeclared (tableOf s)) (rowDeclared (tableOf u)) (row-told (tableOf s) (tableOf u) (few s ok .0) (few u ko .0) (few s ok .1) (few u ko .1)) (tableOf s .rows) (tableOf u .rows) (right s ok .0) (right u ko .0)
+      (omega (arith, here .rows, there .rows, grown .restrictions)) (grown .rows-first .0) [] (append-nil _ ∙ sym (parts u ko .0) ∙ grown .rows-first .1 ∙ ap (λ (z : List ℕ). z ++ grown .rows-first .0) (parts s ok .0)) .0
 
   lines-begin : tableOf u .lines ≡ tableOf s .lines ++ drop (length (tableOf s .lines)) (tableOf u .lines)
   lines-begin =
-      let a = here .lines in let b = there .lines in let more : headerOf s .m ≤ headerOf u .m = grown .lines in
-      begins (record { left = []; right = constant 0 }) (tableOf s .lines) (tableOf u .lines) (omega arith) (λ i h. unfold lineAt in line-same i (omega arith))
+      begins writtenLine (lineDeclared (tableOf s)) (lineDeclared (tableOf u)) (line-told (tableOf s) (tableOf u) (few s ok .0) (few u ko .0) (few s ok .1) (few u ko .1)) (tableOf s .lines) (tableOf u .lines) (right s ok .1) (right u ko .1)
+      (omega (arith, here .lines, there .lines, grown .lines)) (grown .lines-first .0) [] (append-nil _ ∙ sym (parts u ko .1) ∙ grown .lines-first .1 ∙ ap (λ (z : List ℕ). z ++ grown .lines-first .0) (parts s ok .1)) .0
 
   -- GROWTH ON BYTES IS GROWTH ON TABLES
   pub grown-grows : Grows (tableOf s) (tableOf u)
-  grown-grows =
-      let a = here .constants in let b = there .constants in let c = here .roles in let d = there .roles in let e = here .variables in let f = there .variables in
-      let g : headerOf s .c ≤ headerOf u .c = grown .constants in let h : headerOf s .r ≤ headerOf u .r = grown .roles in let i : headerOf s .v ≤ headerOf u .v = grown .variables in
-      record {
-        constants = omega arith;
-        roles = omega arith;
-        variables = omega arith;
-        rows = (drop (length (tableOf s .rows)) (tableOf u .rows), rows-begin);
-        lines = (drop (length (tableOf s .lines)) (tableOf u .lines), lines-begin);
-      }
+  grown-grows = record {
+    constants = omega (arith, here .constants, there .constants, grown .constants);
+    roles = omega (arith, here .roles, there .roles, grown .roles);
+    variables = omega (arith, here .variables, there .variables, grown .variables);
+    rows = (drop (length (tableOf s .rows)) (tableOf u .rows), rows-begin);
+    lines = (drop (length (tableOf s .lines)) (tableOf u .lines), lines-begin);
+  }
 
   pub grown-lines : SameLines s u → tableOf u .lines ≡ tableOf s .lines
-  unfolding SameLines lineAt
+  unfolding SameLines
   grown-lines e =
-      let a = here .lines in let b = there .lines in let q : headerOf s .m ≡ headerOf u .m = e in
-      ext-getD (record { left = []; right = constant 0 }) (tableOf u .lines) (tableOf s .lines) (omega arith) (λ i h. line-same i (omega arith))
+      lines-begin ∙ ap (λ (z : List Line). tableOf s .lines ++ z) (drop-of-length-le (tableOf u .lines) {i = length (tableOf s .lines)} (omega (arith, here .lines, there .lines, e))) ∙ append-nil (tableOf s .lines)

@@ -14,24 +14,20 @@ use lib.ListN.{length, getD, set, take, drop, length-append, length-drop}
 use lib.Seq.{drop-drop, take-all, drop-length, take-suc, length-take-le}
 use borrow.Rule.Slice.PartMut.{putMid, post-is}
 use Rattle.bounds.specs.Bounds.{setBytes}
-use Rattle.output.specs.Written.{littleEndian, numberAt, widest, assignmentBytes, written}
+use Rattle.output.specs.Written.{littleEndian, putAt, numberAt, widest, assignmentBytes, written}
 use Rattle.output.specs.WrittenLaws.{bytes-more, written-start, written-behind}
 
--- the bytes before i, then k bytes of the number, then what stands behind
-abbrev pub with : ℕ → ℕ → ℕ → List ℕ → List ℕ
-with i k x l = take i l ++ (littleEndian k x ++ drop k (drop i l))
-
-put-step : (i k x : ℕ) (l : List ℕ) → i < length l → with i (suc k) x l ≡ with (suc i) k (x / 256) (set l i (x % 256))
+put-step : (i k x : ℕ) (l : List ℕ) → i < length l → putAt i (suc k) x l ≡ putAt (suc i) k (x / 256) (set l i (x % 256))
 unfolding littleEndian
 put-step i k x [] h = absurd (let z : ⊥ = omega arith in z)
 put-step zero k x (b ∷ l) h = refl
 put-step (suc i) k x (b ∷ l) h = ap (λ (m : List ℕ). b ∷ m) (put-step i k x l (omega arith))
 
-pub put-turn : (i x : ℕ) (l : List ℕ) → i < setBytes → i < length l → with i (setBytes - i) x l ≡ with (i + 1) (setBytes - (i + 1)) (x / 256) (set l i (x % 256))
+pub put-turn : (i x : ℕ) (l : List ℕ) → i < setBytes → i < length l → putAt i (setBytes - i) x l ≡ putAt (i + 1) (setBytes - (i + 1)) (x / 256) (set l i (x % 256))
 put-turn i x l h k =
-    ap (λ (j : ℕ). with i j x l) (let z : setBytes - i ≡ suc (setBytes - (i + 1)) = omega arith in z)
+    ap (λ (j : ℕ). putAt i j x l) (let z : setBytes - i ≡ suc (setBytes - (i + 1)) = omega arith in z)
     ∙ put-step i (setBytes - (i + 1)) x l k
-    ∙ ap (λ (j : ℕ). with j (setBytes - (i + 1)) (x / 256) (set l i (x % 256))) (sym (add-one i))
+    ∙ ap (λ (j : ℕ). putAt j (setBytes - (i + 1)) (x / 256) (set l i (x % 256))) (sym (add-one i))
 
 pub number-turn : (k end n b : ℕ) (s : List ℕ) → k < end → b ≡ getD s (end - (k + 1)) 0 → b < 256 → n ≡ numberAt k s (end - k) → n < 256 ^ k
     → (b + 256 * n ≡ numberAt (k + 1) s (end - (k + 1))) × (b + 256 * n < 256 ^ (k + 1))

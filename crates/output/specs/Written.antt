@@ -1,6 +1,7 @@
 -- The output after "solved".
 --
 --   littleEndian k x  == the number x in k bytes
+--   putAt i k x l     == the bytes l with the k bytes of x from the byte i on
 --   numberAt k s at   == the number in the k bytes from `at` on
 --   widest            == the largest k of a number that is read
 --   assignmentBytes a == the set numbers of the assignment a, one after the other
@@ -8,13 +9,16 @@
 --   setIn out x       == the set number of variable x, read back
 use mathlib.Core.List.{List, [], _∷_, _++_}
 use Prim.Native.Nat.{ℕ, zero, suc, _+_, _*_, _/_, _%_}
-use lib.ListN.{length, drop, getD}
+use lib.ListN.{length, take, drop, getD}
 use Rattle.bounds.specs.Bounds.{setBytes}
 
 -- "Little-endian."
 unfoldable pub littleEndian : ℕ → ℕ → List ℕ
 littleEndian zero x = []
 littleEndian (suc k) x = x % 256 ∷ littleEndian k (x / 256)
+
+abbrev pub putAt : ℕ → ℕ → ℕ → List ℕ → List ℕ
+putAt i k x l = take i l ++ (littleEndian k x ++ drop k (drop i l))
 
 unfoldable pub numberAt : ℕ → List ℕ → ℕ → ℕ
 numberAt zero s at = 0

@@ -6,13 +6,13 @@ use Prim.Native.Nat.{ℕ, _-_, _≤_}
 use native.Mathlib.Omega.{arith}
 use lib.ListN.{length, length-set, take-append-drop}
 use Rattle.bounds.specs.Bounds.{setBytes}
-use Rattle.output.specs.Written.{littleEndian}
-use Rattle.output.proofs.Laws.{with, put-turn}
+use Rattle.output.specs.Written.{littleEndian, putAt}
+use Rattle.output.proofs.Laws.{put-turn}
 use Rattle.output.proofs.put_set.Statement.{statement}
 use Rattle.output.proofs.put_set.Tie as tie
 
 abbrev Inv-loop : tie.InvT-loop
-Inv-loop part₀ x rest₀ i₀ part rest i = (i ≤ setBytes) × (length part ≡ length part₀) × (with 0 setBytes x part₀ ≡ with i (setBytes - i) rest part)
+Inv-loop part₀ x rest₀ i₀ part rest i = (i ≤ setBytes) × (length part ≡ length part₀) × (putAt 0 setBytes x part₀ ≡ putAt i (setBytes - i) rest part)
 
 abbrev μ-loop : tie.MeasureT-loop
 μ-loop part₀ x rest₀ i₀ part rest i = setBytes - i
@@ -25,7 +25,7 @@ unfolding littleEndian
 returns c =
     (let l = c .before .loop in
     let e : l .i ≡ setBytes = omega arith in
-    sym (l .inv .2 ∙ ap (λ (i : ℕ). with i (setBytes - i) (l .rest) (l .part)) e ∙ take-append-drop setBytes (l .part)))
+    sym (l .inv .2 ∙ ap (λ (i : ℕ). putAt i (setBytes - i) (l .rest) (l .part)) e ∙ take-append-drop setBytes (l .part)))
 
 pub put-set-spec : {M : Type 1} → statement M
 put-set-spec =

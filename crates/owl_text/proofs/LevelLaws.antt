@@ -21,7 +21,7 @@ use Rattle.owl.specs.Token.{kindOf, placeAt, kindAt, endAt}
 use Rattle.owl.specs.TokenLaws.{kind-range}
 use Rattle.owl.specs.Grammar.{Slot, leftS, rightS, equalsS, labelS, targetS, nameS, roleS, entityS, ontologyS, classS, classesS, noThirdS, headS, versionS, itemsS, prefixesS, insides, inside, Move, stop, on, isName, beginsClass, beginsItem, unlisted, takes, takesOr, takesMore, expect, mayEnd, Verdict, verdict, check, checked}
 use Rattle.owl.specs.SlotLaws.{slotNumber, slot-means}
-use Rattle.owl_text.specs.Levels.{states, slotsOf, columns, column, moves, next, opener, inners, inner, run}
+use Rattle.owl_text.specs.Levels.{states, slotsOf, columns, column, moves, next, opener, inners, inner, endVerdict, run}
 
 ----------------------------------------------------------------------------------------------------
 -- What stands behind a construct does not matter
@@ -228,9 +228,10 @@ sane-small q (p ∷ ps) h = h .1
 firm : (q : ℕ) → 2 ≤ q → q < 28 → mayEnd (slotsOf q) ≡ false
 firm q h l = end-right q l ∙ ne-eqb q 1 (λ e. let z : ⊥ = omega arith in z)
 
-end-flat : (q : ℕ) (st : List ℕ) → Sane q st → mayEnd (flat q st) ≡ eqb q 1
+end-flat : (q : ℕ) (st : List ℕ) → Sane q st → mayEnd (flat q st) ≡ (eqb (length st) 0 && eqb q 1)
 end-flat q [] h = end-right q (let z : q < 28 = omega arith in z)
-end-flat q (p ∷ ps) h = firm-append (slotsOf q) (flat p ps) (firm q (h .0) (h .1)) ∙ sym (ne-eqb q 1 (λ e. let l : 2 ≤ q = h .0 in let z : ⊥ = omega arith in z))
+end-flat q (p ∷ ps) h =
+    firm-append (slotsOf q) (flat p ps) (firm q (h .0) (h .1)) ∙ ap (λ (b : Bool). b && eqb q 1) (sym (ne-eqb (suc (length ps)) 0 (λ e. let z : ⊥ = omega arith in z)))
 
 -- a token's move, whatever stands behind
 expect-flat : (q k : ℕ) (st : List ℕ) → Sane q st → (m : Move) → expect k (slotsOf q) ≡ m → expect k (flat q st) ≡ elim st [ [] ↦ m | p ∷ ps ↦ extend m (flat p ps) ]
@@ -279,7 +280,7 @@ module _ (s : List ℕ) where
         | false ↦ elim (opener k) [
           | true ↦ run s f (endAt s at) (inner k) (next q k ∷ st)
           | false ↦ elim (eqb k 2) [
-            | true ↦ elim st [ [] ↦ verdict 10 (placeAt s at) | p ∷ ps ↦ run s f (endAt s at) p ps ]
+            | true ↦ elim st [ [] ↦ run s f (endAt s at) (next q k) [] | p ∷ ps ↦ run s f (endAt s at) p ps ]
             | false ↦ run s f (endAt s at) (next q k) st
           ]
         ]
@@ -295,7 +296,7 @@ module _ (s : List ℕ) where
   goes-on : (f at k q : ℕ) (st : List ℕ) → Same f → Sane q st → k < 18 → next q k < 28 → (o c : Bool) → opener k ≡ o → eqb k 2 ≡ c →
       elim o [
         | true ↦ run s f (endAt s at) (inner k) (next q k ∷ st)
-        | false ↦ elim c [ true ↦ elim st [ [] ↦ verdict 10 (placeAt s at) | p ∷ ps ↦ run s f (endAt s at) p ps ] | false ↦ run s f (endAt s at) (next q k) st ]
+        | false ↦ elim c [ true ↦ elim st [ [] ↦ run s f (endAt s at) (next q k) [] | p ∷ ps ↦ run s f (endAt s at) p ps ] | false ↦ run s f (endAt s at) (next q k) st ]
       ] ≡ check s f (endAt s at) (inside k ++ flat (next q k) st)
   goes-on f at k q st ih h l m true c o d =
       ih (endAt s at) (inner k) (next q k ∷ st) (inner-right k l o .0, inner-right k l o .1, sane-next q k st h l m (not-close k o))
@@ -322,7 +323,7 @@ module _ (s : List ℕ) where
             | false ↦ elim (opener k) [
               | true ↦ run s f (endAt s at) (inner k) (next q k ∷ st)
               | false ↦ elim (eqb k 2) [
-                | true ↦ elim st [ [] ↦ verdict 10 (placeAt s at) | p ∷ ps ↦ run s f (endAt s at) p ps ]
+                | true ↦ elim st [ [] ↦ run s f (endAt s at) (next q k) [] | p ∷ ps ↦ run s f (endAt s at) p ps ]
                 | false ↦ run s f (endAt s at) (next q k) st
               ]
             ]
@@ -336,7 +337,7 @@ module _ (s : List ℕ) where
             | false ↦ elim (opener k) [
               | true ↦ run s f (endAt s at) (inner k) (next q k ∷ st)
               | false ↦ elim (eqb k 2) [
-                | true ↦ elim st [ [] ↦ verdict 10 (placeAt s at) | p ∷ ps ↦ run s f (endAt s at) p ps ]
+                | true ↦ elim st [ [] ↦ run s f (endAt s at) (next q k) [] | p ∷ ps ↦ run s f (endAt s at) p ps ]
                 | false ↦ run s f (endAt s at) (next q k) st
               ]
             ]
@@ -345,12 +346,12 @@ module _ (s : List ℕ) where
           ∙ ap (slots f at k) (sym (on-flat q k (next q k) st h e))
 
   run-is-check : (f : ℕ) → Same f
-  unfolding run check
+  unfolding run check endVerdict
   run-is-check zero at q st h = refl
   run-is-check (suc f) at q st h = go (eqb (kindAt s at) 0) (at-token f at (kindAt s at) q st (run-is-check f) h (kind-small s at))
     where
       go : (b : Bool) → numbers f at (kindAt s at) q st ≡ slots f at (kindAt s at) (expect (kindAt s at) (flat q st)) →
-          _≡_ {A = Verdict} (elim b [ true ↦ elim (eqb q 1) [ true ↦ verdict 0 0 | false ↦ verdict 10 (length s) ] | false ↦ numbers f at (kindAt s at) q st ])
+          _≡_ {A = Verdict} (elim b [ true ↦ endVerdict s q (length st) | false ↦ numbers f at (kindAt s at) q st ])
           (elim b [ true ↦ elim (mayEnd (flat q st)) [ true ↦ verdict 0 0 | false ↦ verdict 10 (length s) ] | false ↦ slots f at (kindAt s at) (expect (kindAt s at) (flat q st)) ])
       go true e = ap (λ (b : Bool). elim b [ true ↦ verdict 0 0 | false ↦ verdict 10 (length s) ]) (sym (end-flat q st h))
       go false e = e

@@ -1,4 +1,4 @@
 pub mod LevelLaws
 pub mod TableLaws
 pub mod StepLaws
-pub mod WindowLaws
+pub mod BlockLaws

@@ -3,19 +3,19 @@
 --   column-in, next-over, next-in, next-lent              == the table of moves
 --   opener-small, opener-rest         == the kinds of the listed words
 --   inner-over, inner-in              == the table of inner states
---   window-below, window-above, window-in == a level is from lo to high, or is not
---   opening-none, opening-at          == a token opens a level, or does not
-use mathlib.Core.Path.{subst, _≡_, ap, ap₂, sym, _∙_}
+--   block-in, block-out, block-same, refusing-in, refusing-out == a level is one of the block, or is not
+--   opened-none, opened-at            == a token opens a level, or does not
+use mathlib.Core.Path.{_≡_, refl, subst, ap, ap₂, sym, _∙_}
 use mathlib.Core.Bool.{Bool, true, false, _&&_}
 use mathlib.Core.List.{List, []}
-use Prim.Native.Nat.{ℕ, _≤_, _<_}
+use Prim.Native.Nat.{ℕ, _/_, _≤_, _<_}
 use native.Mathlib.Omega.{arith}
-use lib.Dec.{eqb, eqb→eq, leb, ltb, ltb→lt}
+use lib.Dec.{eqb, eqb→eq, ltb, ltb→lt}
 use lib.ListN.{getD, List·getD-eq-default}
-use borrow.Author.Tests.{lt-ltb, le-ltb, le-leb, lt-leb}
+use borrow.Author.Tests.{eq-eqb, ne-eqb, lt-ltb, le-ltb}
 use Rattle.el.specs.Test.{allBelow}
 use Rattle.el.specs.TestLaws.{and-left, and-right, allBelow-at}
-use Rattle.owl_text.specs.Levels.{columns, column, moves, next, opener, inners, inner, inWindow, opening}
+use Rattle.owl_text.specs.Levels.{columns, column, moves, next, opener, inners, inner, opened, inBlock, refusing}
 
 pub column-in : (w k : ℕ) → w ≡ k → w < 18 → (getD columns w 0 ≡ column k) × (getD columns w 0 < 14)
 unfolding column columns allBelow
@@ -62,26 +62,37 @@ inner-in w k e h =
     eqb→eq (getD inners w 0) (getD inners w 1) (allBelow-at 13 w (λ i. eqb (getD inners i 0) (getD inners i 1)) tt h) ∙ ap (λ (i : ℕ). getD inners i 1) e
 
 ----------------------------------------------------------------------------------------------------
--- The window
+-- The block
 
-pub window-below : (lo high depth a b : ℕ) → depth < lo → b ≡ inWindow lo high depth a b
-unfolding inWindow
-window-below lo high depth a b h = sym (ap (λ (t : Bool). elim (t && leb depth high) [ true ↦ a | false ↦ b ]) (lt-leb lo depth h))
+pub block-in : (block level a b : ℕ) → level / 4096 ≡ block → a ≡ inBlock block level a b
+unfolding inBlock
+block-in block level a b h = sym (ap (λ (t : Bool). elim t [ true ↦ a | false ↦ b ]) (eq-eqb (level / 4096) block h))
 
-pub window-above : (lo high depth a b : ℕ) → lo ≤ depth → high < depth → b ≡ inWindow lo high depth a b
-unfolding inWindow
-window-above lo high depth a b l h =
-    sym (ap (λ (t : Bool). elim (t && leb depth high) [ true ↦ a | false ↦ b ]) (le-leb lo depth l) ∙ ap (λ (t : Bool). elim t [ true ↦ a | false ↦ b ]) (lt-leb depth high h))
+pub block-out : (block level a b : ℕ) → (level / 4096 ≡ block → ⊥) → b ≡ inBlock block level a b
+unfolding inBlock
+block-out block level a b h = sym (ap (λ (t : Bool). elim t [ true ↦ a | false ↦ b ]) (ne-eqb (level / 4096) block h))
 
-pub window-in : (lo high depth a b : ℕ) → lo ≤ depth → depth ≤ high → a ≡ inWindow lo high depth a b
-unfolding inWindow
-window-in lo high depth a b l h =
-    sym (ap (λ (t : Bool). elim (t && leb depth high) [ true ↦ a | false ↦ b ]) (le-leb lo depth l) ∙ ap (λ (t : Bool). elim t [ true ↦ a | false ↦ b ]) (le-leb depth high h))
+pub refusing-in : (block depth n : ℕ) → depth / 4096 ≡ block → ltb 79 n ≡ refusing block depth n
+unfolding refusing
+refusing-in block depth n h = sym (ap (λ (t : Bool). t && ltb 79 n) (eq-eqb (depth / 4096) block h))
 
-pub opening-none : (lo high level k mark : ℕ) → opener k ≡ false → mark ≡ opening lo high level k mark
-unfolding opening
-opening-none lo high level k mark o = sym (ap (λ (t : Bool). elim t [ true ↦ inWindow lo high level (inner k) mark | false ↦ mark ]) o)
+pub refusing-out : (block depth n : ℕ) → (depth / 4096 ≡ block → ⊥) → false ≡ refusing block depth n
+unfolding refusing
+refusing-out block depth n h = sym (ap (λ (t : Bool). t && ltb 79 n) (ne-eqb (depth / 4096) block h))
 
-pub opening-at : (lo high level k mark : ℕ) → opener k ≡ true → inWindow lo high level (inner k) mark ≡ opening lo high level k mark
-unfolding opening
-opening-at lo high level k mark o = sym (ap (λ (t : Bool). elim t [ true ↦ inWindow lo high level (inner k) mark | false ↦ mark ]) o)
+pub opened-none : (k mark : ℕ) → opener k ≡ false → opened k mark ≡ mark
+unfolding opened
+opened-none k mark o = ap (λ (t : Bool). elim t [ true ↦ inner k | false ↦ mark ]) o
+
+pub opened-at : (k mark : ℕ) → opener k ≡ true → opened k mark ≡ inner k
+unfolding opened
+opened-at k mark o = ap (λ (t : Bool). elim t [ true ↦ inner k | false ↦ mark ]) o
+
+-- where nothing is opened, nothing changes
+pub block-same : (block level a b : ℕ) → a ≡ b → b ≡ inBlock block level a b
+unfolding inBlock
+block-same block level a b h = go (eqb (level / 4096) block)
+  where
+    go : (t : Bool) → b ≡ elim t [ true ↦ a | false ↦ b ]
+    go true = sym h
+    go false = refl

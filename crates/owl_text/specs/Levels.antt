@@ -6,23 +6,31 @@
 --   next q k        == what a token of kind k does in state q: the state after it (of a word with a body: the state to come back to), or 80 and its refusal
 --   opener k        == a token of kind k has a body
 --   inner k         == the state at the start of that body
---   levelOf k full  == the state of level k from the outside, where `full` are the states, innermost first
+--   endVerdict s q depth == the verdict on a text that ends in state q at this depth
 --   run s f at q st == the verdict from byte `at` on, in state q with the states st to come back to; f tokens at most
 --
--- What the code does for want of a stack: it reads from the start again, and keeps the state of level k alone.
+-- Level by level: the state of a level changes only by the tokens that stand directly in it, and by those that open it.
 --
 --   deeper k depth          == the number of the innermost level after a token of kind k
---   marked i depth k mark   == the state of level i after it, where it was `mark`
---   scan s limit i f at depth mark == the state of level i after the tokens before `limit`
---   stepped, opened         == the two halves of `marked`
---   inWindow lo high depth a b == a if depth is from lo to high, else b
---   opening lo high level k mark == the state of a level that a token of kind k opens, if it is from lo to high, else mark
---   Kept lo high kept f     == the levels lo to high, kept in an array of 4096, are those of f
+--   updated level f i mark  == the state of level i, where f changes that of `level`
+--   opened k mark           == the state of the level behind a token of kind k, where it was `mark`
+--   marked i depth k mark   == the state of level i after a token of kind k at this depth, where it was `mark`
+--   atToken s n, depthAt s n == the byte and the number of the innermost level after n tokens
+--   markAt s i n, stateAt s n == the state of level i after n tokens, and of the innermost level
+--   stops s n, verdictAt s n == the text ends at the token after n tokens, or its level refuses it; the verdict there
+--
+-- What the code does for want of a stack: it reads the text once for each block of 4,096 levels.
+--
+--   inBlock block level a b == a if the level is one of the block, else b
+--   refusing block depth n  == a token in a level of the block refuses, n being what it does
+--   Clear s block limit     == before byte `limit` no token stops in a level of the blocks before this one
+--   Refused s at number place == the token sought from byte `at` stops, with this verdict
+--   Found                   == both, and no level before that token is deeper than `most`
 use mathlib.Core.Path.{_≡_}
-use mathlib.Core.Bool.{Bool, true, false, _&&_}
+use mathlib.Core.Bool.{Bool, true, false, _&&_, _||_}
 use mathlib.Core.List.{List, [], _∷_}
-use Prim.Native.Nat.{ℕ, zero, suc, _+_, _-_, _%_, _≤_}
-use lib.Dec.{eqb, leb, ltb}
+use Prim.Native.Nat.{ℕ, zero, suc, _+_, _-_, _/_, _≤_, _<_}
+use lib.Dec.{eqb, ltb}
 use lib.ListN.{length, getD}
 use Rattle.owl.specs.Token.{placeAt, kindAt, endAt}
 use Rattle.owl.specs.Grammar.{Slot, leftS, rightS, equalsS, labelS, targetS, nameS, roleS, entityS, ontologyS, classS, classesS, noThirdS, headS, versionS, itemsS, prefixesS, Verdict, verdict}
@@ -118,21 +126,20 @@ inners = 1 ∷ 1 ∷ 1 ∷ 1 ∷ 2 ∷ 7 ∷ 11 ∷ 13 ∷ 13 ∷ 15 ∷ 18 ∷ 
 unfoldable pub inner : ℕ → ℕ
 inner k = getD inners k 1
 
-unfoldable pub levelOf : ℕ → List ℕ → ℕ
-levelOf k [] = 0
-levelOf k (q ∷ st) = elim (eqb (length st) k) [ true ↦ q | false ↦ levelOf k st ]
+unfoldable pub endVerdict : List ℕ → ℕ → ℕ → Verdict
+endVerdict s q depth = elim (eqb depth 0 && eqb q 1) [ true ↦ verdict 0 0 | false ↦ verdict 10 (length s) ]
 
 unfoldable pub run : List ℕ → ℕ → ℕ → ℕ → List ℕ → Verdict
 run s zero at q st = verdict 10 at
 run s (suc f) at q st =
     elim (eqb (kindAt s at) 0) [
-      | true ↦ elim (eqb q 1) [ true ↦ verdict 0 0 | false ↦ verdict 10 (length s) ]
+      | true ↦ endVerdict s q (length st)
       | false ↦ elim (ltb 79 (next q (kindAt s at))) [
         | true ↦ verdict (next q (kindAt s at) - 80) (placeAt s at)
         | false ↦ elim (opener (kindAt s at)) [
           | true ↦ run s f (endAt s at) (inner (kindAt s at)) (next q (kindAt s at) ∷ st)
           | false ↦ elim (eqb (kindAt s at) 2) [
-            | true ↦ elim st [ [] ↦ verdict 10 (placeAt s at) | p ∷ ps ↦ run s f (endAt s at) p ps ]
+            | true ↦ elim st [ [] ↦ run s f (endAt s at) (next q (kindAt s at)) [] | p ∷ ps ↦ run s f (endAt s at) p ps ]
             | false ↦ run s f (endAt s at) (next q (kindAt s at)) st
           ]
         ]
@@ -140,30 +147,66 @@ run s (suc f) at q st =
     ]
 
 ----------------------------------------------------------------------------------------------------
--- A second reading
+-- Level by level
 
 unfoldable pub deeper : ℕ → ℕ → ℕ
 deeper k depth = elim (opener k) [ true ↦ depth + 1 | false ↦ elim (eqb k 2) [ true ↦ depth - 1 | false ↦ depth ] ]
 
+unfoldable pub updated : ℕ → (ℕ → ℕ) → ℕ → ℕ → ℕ
+updated level f i mark = elim (eqb level i) [ true ↦ f mark | false ↦ mark ]
+
+unfoldable pub opened : ℕ → ℕ → ℕ
+opened k mark = elim (opener k) [ true ↦ inner k | false ↦ mark ]
+
 unfoldable pub marked : ℕ → ℕ → ℕ → ℕ → ℕ
-marked i depth k mark = elim (eqb depth i) [ true ↦ next mark k | false ↦ elim (opener k && eqb (depth + 1) i) [ true ↦ inner k | false ↦ mark ] ]
+marked i depth k mark = updated (depth + 1) (opened k) i (updated depth (λ m. next m k) i mark)
 
-unfoldable pub scan : List ℕ → ℕ → ℕ → ℕ → ℕ → ℕ → ℕ → ℕ
-scan s limit i zero at depth mark = mark
-scan s limit i (suc f) at depth mark =
-    elim (ltb at limit) [ true ↦ scan s limit i f (endAt s at) (deeper (kindAt s at) depth) (marked i depth (kindAt s at) mark) | false ↦ mark ]
+unfoldable pub atToken : List ℕ → ℕ → ℕ
+atToken s zero = 0
+atToken s (suc n) = endAt s (atToken s n)
 
-unfoldable pub stepped : ℕ → ℕ → ℕ → ℕ → ℕ
-stepped depth i k mark = elim (eqb depth i) [ true ↦ next mark k | false ↦ mark ]
+unfoldable pub depthAt : List ℕ → ℕ → ℕ
+depthAt s zero = 0
+depthAt s (suc n) = deeper (kindAt s (atToken s n)) (depthAt s n)
 
-unfoldable pub opened : ℕ → ℕ → ℕ → ℕ → ℕ
-opened depth i k mark = elim (opener k && eqb (depth + 1) i) [ true ↦ inner k | false ↦ mark ]
+unfoldable pub markAt : List ℕ → ℕ → ℕ → ℕ
+markAt s i zero = 0
+markAt s i (suc n) = marked i (depthAt s n) (kindAt s (atToken s n)) (markAt s i n)
 
-unfoldable pub inWindow : ℕ → ℕ → ℕ → ℕ → ℕ → ℕ
-inWindow lo high depth a b = elim (leb lo depth && leb depth high) [ true ↦ a | false ↦ b ]
+abbrev pub stateAt : List ℕ → ℕ → ℕ
+stateAt s n = markAt s (depthAt s n) n
 
-unfoldable pub opening : ℕ → ℕ → ℕ → ℕ → ℕ → ℕ
-opening lo high level k mark = elim (opener k) [ true ↦ inWindow lo high level (inner k) mark | false ↦ mark ]
+unfoldable pub stops : List ℕ → ℕ → Bool
+stops s n = eqb (kindAt s (atToken s n)) 0 || ltb 79 (next (stateAt s n) (kindAt s (atToken s n)))
 
-abbrev pub Kept : ℕ → ℕ → List ℕ → (ℕ → ℕ) → Type 0
-Kept lo high kept f = (i : ℕ) → lo ≤ i → i ≤ high → getD kept (i % 4096) 0 ≡ f i
+unfoldable pub verdictAt : List ℕ → ℕ → Verdict
+verdictAt s n =
+    elim (eqb (kindAt s (atToken s n)) 0) [
+      | true ↦ endVerdict s (stateAt s n) (depthAt s n)
+      | false ↦ verdict (next (stateAt s n) (kindAt s (atToken s n)) - 80) (placeAt s (atToken s n))
+    ]
+
+----------------------------------------------------------------------------------------------------
+-- Block by block
+
+unfoldable pub inBlock : ℕ → ℕ → ℕ → ℕ → ℕ
+inBlock block level a b = elim (eqb (level / 4096) block) [ true ↦ a | false ↦ b ]
+
+unfoldable pub refusing : ℕ → ℕ → ℕ → Bool
+refusing block depth n = eqb (depth / 4096) block && ltb 79 n
+
+abbrev pub Clear : List ℕ → ℕ → ℕ → Type 0
+Clear s block limit = (j : ℕ) → atToken s j < limit → depthAt s j / 4096 < block → stops s j ≡ false
+
+pub record Refused (s : List ℕ) (at number place : ℕ) : Type 0 where
+  pub count : ℕ
+  pub here : at ≡ atToken s count
+  pub within : at ≤ length s
+  pub first : (j : ℕ) → j < count → atToken s j < at
+  pub stop : stops s count ≡ true
+  pub says : verdictAt s count ≡ verdict number place
+
+pub record Found (s : List ℕ) (block at number place most : ℕ) : Type 0 where
+  pub clear : Clear s block at
+  pub refused : Refused s at number place
+  pub deepest : (j : ℕ) → atToken s j < at → depthAt s j ≤ most

@@ -1,13 +1,17 @@
 // Whether a text is the written form of an OWL file, and the first token that spoils it.
 //
-// Constructs nest without bound, and there is no recursion, no heap and no stack. A state says what the construct at hand still asks
-// for; the states of the constructs around it are kept in a window of the innermost 4,096 levels. Where a `)` leads below the window,
-// it is filled by reading the text from the start again: the state of a level changes only by tokens that stand directly in it.
+// Constructs nest without bound, and there is no recursion, no heap and no stack. The level of a construct has a state, which says what
+// the construct still asks for; it changes only by tokens that stand directly in that level, and by those that open it. So the text is
+// read once for each block of 4,096 levels. A reading judges the tokens in its block, of the others it knows the depth alone, and it
+// goes no further than the first refusal that was found before it.
 ghost use mathlib.Core.Path.{_≡_};
+ghost use mathlib.Core.Bool.{_&&_};
+ghost use mathlib.Core.Logic.{_⊎_};
 ghost use Prim.Native.Nat.{_+_, _-_, _≤_, _<_};
+ghost use lib.Dec.{eqb};
 ghost use lib.ListN.{length};
 ghost use Rattle.owl.specs.Grammar.{checked};
-ghost use Rattle.owl_text.specs.Levels.{column, moves, next, opener, inner, deeper, scan, inWindow, opening, Kept};
+ghost use Rattle.owl_text.specs.Levels.{column, moves, next, opener, inner, deeper, opened, inBlock, refusing, Clear, Refused, Found};
 
 // 0 and place 0; or 10 or 11, and where the token begins.
 pub struct Checked {
@@ -15,8 +19,12 @@ pub struct Checked {
     pub place: usize,
 }
 
-pub struct Row {
-    pub kept: [u8; 4096],
+// Where a reading ends: the byte from which its last token is sought, the verdict there, and the greatest depth before.
+pub struct End {
+    pub at: usize,
+    pub number: u32,
+    pub place: usize,
+    pub most: usize,
 }
 
 fn wide(x: u8) -> usize
@@ -118,133 +126,135 @@ fn deeper(k: u8, depth: usize) -> usize
     depth - 1
 }
 
-// The state of the level that a token stands in, if it is in the window.
-fn step_level(table: &[[u8; 14]; 28], mark: u8, lo: usize, high: usize, depth: usize, k: u8) -> u8
-    requires { ⌜ (k < 18) × (now table ≡ moves) ⌝ }
-    ensures { λ r. ⌜ r ≡ inWindow lo high depth (next mark k) mark ⌝ }
+fn larger(a: usize, b: usize) -> usize
+    ensures { λ r. ⌜ (a ≤ r) × (b ≤ r) ⌝ }
 {
-    if depth < lo {
-        return mark;
+    if a < b {
+        return b;
     }
-    if high < depth {
+    a
+}
+
+// The state of the level that a token stands in, if it is one of the block.
+fn step_level(table: &[[u8; 14]; 28], mark: u8, block: usize, depth: usize, k: u8) -> u8
+    requires { ⌜ (k < 18) × (now table ≡ moves) ⌝ }
+    ensures { λ r. ⌜ r ≡ inBlock block depth (next mark k) mark ⌝ }
+{
+    let own = depth / 4096;
+    if own != block {
         return mark;
     }
     next(table, mark, k)
 }
 
-// The state of the level that a token opens, if it is in the window.
-fn open_level(mark: u8, lo: usize, high: usize, level: usize, k: u8) -> u8
-    ensures { λ r. ⌜ r ≡ opening lo high level k mark ⌝ }
+fn refusing(block: usize, depth: usize, n: u8) -> bool
+    ensures { λ r. ⌜ r ≡ refusing block depth n ⌝ }
+{
+    let own = depth / 4096;
+    if own != block {
+        return false;
+    }
+    79 < n
+}
+
+// The state of the level behind a token, if it is one of the block.
+fn open_level(mark: u8, block: usize, level: usize, k: u8) -> u8
+    ensures { λ r. ⌜ r ≡ inBlock block level (opened k mark) mark ⌝ }
 {
     if !opener(k) {
         return mark;
     }
-    if level < lo {
-        return mark;
-    }
-    if high < level {
+    let own = level / 4096;
+    if own != block {
         return mark;
     }
     inner(k)
 }
 
-// One reading from the start to `limit` that finds the states of the levels lo to high, 4,096 at most.
-fn refill(table: &[[u8; 14]; 28], s: &[u8], limit: usize, high: usize, lo: usize) -> Row
-    requires { ⌜ (limit ≤ length (now s)) × (high < lo + 4096) × (now table ≡ moves) ⌝ }
-    ensures { λ r. ⌜ Kept lo high (r .kept) (λ i. scan (now (s .entry)) limit i (length (now (s .entry))) 0 0 0) ⌝ }
+fn may_end(depth: usize, q: u8) -> bool
+    ensures { λ r. ⌜ r ≡ (eqb depth 0 && eqb q 1) ⌝ }
+{
+    if depth != 0 {
+        return false;
+    }
+    q == 1
+}
+
+// One reading, for one block. The first refusal in the blocks before it is given, if there is one.
+fn read(table: &[[u8; 14]; 28], s: &[u8], block: usize, best: End) -> End
+    requires { ⌜ (now table ≡ moves) × Clear (now s) block (best .at) × (Refused (now s) (best .at) (best .number) (best .place) ⊎ (length (now s) < best .at)) ⌝ }
+    ensures { λ r. ⌜ Found (now (s .entry)) (block + 1) (r .at) (r .number) (r .place) (r .most) ⌝ }
 {
     let mut kept = [0u8; 4096];
     let mut at = 0;
     let mut depth = 0;
-    while at < limit {
+    let mut most = 0;
+    while at < best.at {
         let t = owl_token::token_at(s, at);
         let kind = t.kind;
+        let place = t.place;
+        if kind == 0 {
+            if may_end(depth, kept[0]) {
+                return End {
+                    at,
+                    number: 0,
+                    place: 0,
+                    most,
+                };
+            }
+            return End {
+                at,
+                number: 10,
+                place: s.len(),
+                most,
+            };
+        }
         let here = depth % 4096;
-        kept[here] = step_level(table, kept[here], lo, high, depth, kind);
+        let n = step_level(table, kept[here], block, depth, kind);
+        if refusing(block, depth, n) {
+            return End {
+                at,
+                number: refusal(n),
+                place,
+                most,
+            };
+        }
+        kept[here] = n;
         let behind = (depth + 1) % 4096;
-        kept[behind] = open_level(kept[behind], lo, high, depth + 1, kind);
+        kept[behind] = open_level(kept[behind], block, depth + 1, kind);
         depth = deeper(kind, depth);
+        most = larger(most, depth);
         at = t.end;
     }
-    Row { kept }
-}
-
-// Where the window of 4,096 levels up to `depth` begins.
-fn low(depth: usize) -> usize
-    ensures { λ r. ⌜ (r ≤ depth) × (depth < r + 4096) ⌝ }
-{
-    if depth < 4096 {
-        return 0;
+    End {
+        at: best.at,
+        number: best.number,
+        place: best.place,
+        most,
     }
-    depth - 4095
-}
-
-fn raised(lo: usize, depth: usize) -> usize
-    ensures { λ r. ⌜ (lo ≤ r) × (depth < r + 4096) ⌝ }
-{
-    if depth < 4096 {
-        return lo;
-    }
-    if lo < depth - 4095 {
-        return depth - 4095;
-    }
-    lo
 }
 
 pub fn check(s: &[u8]) -> Checked
     ensures { λ r. ⌜ (r .number ≡ checked (now (s .entry)) .number) × (r .place ≡ checked (now (s .entry)) .place) ⌝ }
 {
     let table = MOVES;
-    let mut at = 0;
-    let mut q = 0;
-    let mut depth = 0;
-    let mut lo = 0;
-    let mut kept = [0u8; 4096];
+    let nowhere = End {
+        at: s.len() + 1,
+        number: 0,
+        place: 0,
+        most: 0,
+    };
+    let mut best = read(&table, s, 0, nowhere);
+    let mut block = 1;
     loop {
-        let t = owl_token::token_at(s, at);
-        let kind = t.kind;
-        let place = t.place;
-        if kind == 0 {
-            if q == 1 {
-                return Checked {
-                    number: 0,
-                    place: 0,
-                };
-            }
+        let last = best.most / 4096;
+        if last < block {
             return Checked {
-                number: 10,
-                place: s.len(),
+                number: best.number,
+                place: best.place,
             };
         }
-        let n = next(&table, q, kind);
-        if 79 < n {
-            return Checked {
-                number: refusal(n),
-                place,
-            };
-        }
-        let from = at;
-        at = t.end;
-        if opener(kind) {
-            q = inner(kind);
-            kept[depth % 4096] = n;
-            lo = raised(lo, depth);
-            depth += 1;
-        } else if kind == 2 {
-            if depth == 0 {
-                return Checked { number: 10, place };
-            }
-            depth -= 1;
-            if depth < lo {
-                lo = low(depth);
-                let row = refill(&table, s, from, depth, lo);
-                kept = row.kept;
-                q = kept[depth % 4096];
-            } else {
-                q = kept[depth % 4096];
-            }
-        } else {
-            q = n;
-        }
+        best = read(&table, s, block, best);
+        block += 1;
     }
 }

@@ -176,6 +176,45 @@ static void deep(size_t levels, const char *open) {
     free(text);
 }
 
+/* So many nests of restrictions side by side, each in an axiom of its own; in nest `wrong` stands `=` behind so many levels. */
+static unsigned char *row(size_t nests, size_t levels, size_t wrong, size_t behind, size_t *length, size_t *place) {
+    const char *head = "Ontology(", *axiom = "SubClassOf(:A ", *open = "ObjectSomeValuesFrom(:r ";
+    size_t a = strlen(axiom), o = strlen(open), n = strlen(head), i, j;
+    unsigned char *text = malloc(n + nests * (a + levels * (o + 1) + 4) + 1);
+    if (!text) abort();
+    memcpy(text, head, n);
+    for (i = 0; i < nests; i++) {
+        memcpy(text + n, axiom, a);
+        n += a;
+        for (j = 0; j < levels; j++, n += o) {
+            if (i == wrong && j == behind) *place = n, text[n++] = '=';
+            memcpy(text + n, open, o);
+        }
+        memcpy(text + n, ":B", 2);
+        n += 2;
+        for (j = 0; j <= levels; j++) text[n++] = ')';
+    }
+    text[n++] = ')';
+    *length = n;
+    return text;
+}
+
+static void side_by_side(size_t nests, size_t levels) {
+    size_t length, place = 0, i, wrong[][2] = {{0, 1}, {1, levels - 1}, {nests - 1, 5}, {nests - 1, levels - 1}};
+    unsigned char *text = row(nests, levels, nests, 0, &length, &place);
+    gives("nests side by side", text, length, 0, 0);
+    gives("nests side by side, one `)` missing", text, length - 1, 10, length - 1);
+    free(text);
+    for (i = 0; i < sizeof wrong / sizeof *wrong; i++) {
+        text = row(nests, levels, wrong[i][0], wrong[i][1], &length, &place);
+        gives("nests side by side, a wrong token in one", text, length, 10, place);
+        /* a second one behind it, in a level of another block */
+        text[length - 1] = '=';
+        gives("nests side by side, a second wrong token", text, length, 10, place);
+        free(text);
+    }
+}
+
 /* 1 MB of ordinary text, timed beside the plain tokenizer. */
 static void bench(const unsigned char *sample, size_t length) {
     size_t begin = 0, end, n = 0, room = 1 << 20, tokens = 0, i;
@@ -237,6 +276,9 @@ int main(int count, char **args) {
     deep(4097, "ObjectSomeValuesFrom(:r ");
     deep(100000, "ObjectIntersectionOf(owl:Thing ");
     deep(100000, "ObjectSomeValuesFrom(:r ");
+    side_by_side(3, 4095);
+    side_by_side(80, 4200);
+    side_by_side(3, 9000);
     printf("%zu runs\n", run);
     return 0;
 }

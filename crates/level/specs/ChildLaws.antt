@@ -76,8 +76,8 @@ module _ {s over inner start : List ℕ} {turning leaving : ℕ} {fresh : List �
       let h = child-place in let r : length a ≡ maxVariables = given .room in
       (let q : k ≡ suc (k - 1) = omega arith in ap (λ (i : ℕ). take i a) q) ∙ take-suc a (k - 1) 0 (omega arith)
 
-  parent-straight : acyclic t parent ≡ true
-  parent-straight = go (acyclic t parent) refl
+  parent-acyclic : acyclic t parent ≡ true
+  parent-acyclic = go (acyclic t parent) refl
     where
       go : (b : Bool) → acyclic t parent ≡ b → acyclic t parent ≡ true
       go true q = q
@@ -90,19 +90,19 @@ module _ {s over inner start : List ℕ} {turning leaving : ℕ} {fresh : List �
   child-turns h =
       let f = given .level .turning .some own h in
       as-child true (dead-cyclic (roleOrder t) t (childOf parent own)
-      (child-acyclic t known parent own parent-straight ∙ ap not (subst (λ (w : ℕ). newly t parent own w ≡ true) (f .1) (f .2))))
+      (child-acyclic t known parent own parent-acyclic ∙ ap not (subst (λ (w : ℕ). newly t parent own w ≡ true) (f .1) (f .2))))
 
   module _ (stays : bitAnd own turning ≡ 0) where
     no-new : newly t parent own (length parent) ≡ false
     no-new = given .level .turning .none own stays (length parent) refl
 
-    straight : acyclic t (childOf parent own) ≡ true
-    straight = child-acyclic t known parent own parent-straight ∙ ap not no-new
+    is-acyclic : acyclic t (childOf parent own) ≡ true
+    is-acyclic = child-acyclic t known parent own parent-acyclic ∙ ap not no-new
 
     pub child-leaves : (bitAnd own leaving ≡ 0 → ⊥) → false ≡ dead (roleOrder t) t (take k a)
     child-leaves h =
         let f = given .level .leaving .some own h in
-        as-child false (child-open t known parent own (roleOrder t) (given .live) no-new straight (f .0) (f .1) (f .2))
+        as-child false (child-open t known parent own (roleOrder t) (given .live) no-new is-acyclic (f .0) (f .1) (f .2))
 
     -- what the lines' test asks
     pub child-lines : FreshGiven s over inner start fresh few counts a
@@ -132,7 +132,7 @@ module _ {s over inner start : List ℕ} {turning leaving : ℕ} {fresh : List �
                 restrictions = given .node .counts-of .restrictions;
                 variables = given .node .counts-of .variables;
                 sets = record { many = given .room };
-                acyclic = subst T (acyclic-same t (nodeOf (setsOf a k)) a (same-sets (setsOf a k) (given .node .clean))) (true-is (acyclic t (nodeOf (setsOf a k))) (unfold nodeOf in ap (acyclic t) node-child ∙ straight));
+                acyclic = subst T (acyclic-same t (nodeOf (setsOf a k)) a (same-sets (setsOf a k) (given .node .clean))) (true-is (acyclic t (nodeOf (setsOf a k))) (unfold nodeOf in ap (acyclic t) node-child ∙ is-acyclic));
                 rows = given .rows;
                 line = record { number = n; few = m; begins = given .starts .at n m };
               };
@@ -147,7 +147,7 @@ module _ {s over inner start : List ℕ} {turning leaving : ℕ} {fresh : List �
         ∙ anyBelow-same (counts .m) (λ n. freshly t parent (lineAt (t .lines) n) && failsAt t a n) (λ n. failing (lineAt (t .lines) n))
         (λ n h. ap (λ (b : Bool). freshly t parent (lineAt (t .lines) n) && b) (here n))
         ∙ ap (λ (j : ℕ). anyBelow j (λ n. failing (lineAt (t .lines) n))) (node-counts (given .node) .2) ∙ sym (any-below failing (t .lines))
-        ∙ sym (ap (dead (roleOrder t) t) node-child ∙ child-dead t known parent own (roleOrder t) (given .live) no-new straight closed)
+        ∙ sym (ap (dead (roleOrder t) t) node-child ∙ child-dead t known parent own (roleOrder t) (given .live) no-new is-acyclic closed)
       where
         failing : Line → Bool
         failing l = freshly t parent l && not (holds (roleOrder t) (t .rows) (induced t (childOf parent own)) l)

@@ -9,24 +9,29 @@
 --   isFresh mask a k n      == line n has a variable of the mask a, and only variables of the mask k
 --   Listed q n fresh few    == the first `few` numbers of `fresh` are those below n that pass q
 --   Levels t p m level      == the level is that of the children of the node p
+--   LevelGiven fill mask counts sets == what a level is made of: masks of restrictions and lines, and the sets of a node that has a parent
+--   LevelFor fill mask counts sets level == the level is that of the parent's children, whatever table has these masks and counts
 --   failsAt t set n         == line n does not hold under the sets
 --   freshFails t set fresh few == one of the lines listed does not
 use mathlib.Core.Path.{_≡_}
 use mathlib.Core.Bool.{Bool, true, false, _&&_, _||_, not}
 use mathlib.Core.List.{List, [], _∷_, _++_}
-use Prim.Native.Nat.{ℕ, zero, suc, _+_, _≤_, _<_}
-use lib.Dec.{eqb}
+use Prim.Native.Nat.{ℕ, zero, suc, _+_, _-_, _≤_, _<_}
+use lib.Dec.{T, eqb}
 use lib.ListN.{length, getD, take}
 use lib.Bits.{bitAnd}
 use Rattle.bounds.specs.Bounds.{maxLines}
 use Rattle.el.specs.Test.{anyBelow, bit}
-use Rattle.el.specs.Table.{Table, roleOrder}
+use Rattle.el.specs.Table.{Table, declared, roleOrder}
 use Rattle.el.specs.Meaning.{holds}
 use Rattle.el.specs.Assignment.{induced}
 use Rattle.el.specs.Walk.{Node}
 use Rattle.el.specs.Below.{newly, freshly}
 use Rattle.table.specs.Layout.{lineAt}
-use Rattle.node.specs.Square.{rowOf}
+use Rattle.node.specs.declared.Sets.{Sets}
+use Rattle.node.specs.declared.Counts.{Counts}
+use Rattle.node.specs.Mask.{Fills, LineMasks}
+use Rattle.node.specs.Square.{rowOf, SquareGiven}
 use Rattle.level.specs.declared.Level.{Level}
 
 unfoldable pub newBy : List ℕ → ℕ → ℕ → ℕ → Bool
@@ -65,6 +70,17 @@ pub record Levels (t : Table) (p : Node) (m : ℕ) (level : Level) : Type 0 wher
   pub turning : Tells t p (Back (length p)) (level .turning)
   pub leaving : Tells t p (Out (length p)) (level .leaving)
   pub lines : Listed (λ n. freshly t p (lineAt (t .lines) n)) m (level .fresh) (level .few)
+
+pub record LevelGiven (fill mask : List ℕ) (counts : Counts) (sets : Sets) : Type 0 where
+  pub square : SquareGiven fill (counts .c) (counts .e) sets
+  pub few-lines : counts .m ≤ maxLines
+  pub mask-room : length mask ≡ maxLines
+  pub some : 0 < sets .chosen
+
+abbrev pub LevelFor : List ℕ → List ℕ → Counts → Sets → Level → Type 0
+LevelFor fill mask counts sets level =
+    (t : Table) → T (declared t) → Fills t (counts .c) (counts .e) fill → LineMasks t (counts .m) mask → sets .chosen ≤ t .variables
+    → Levels t (take (sets .chosen - 1) (sets .set)) (counts .m) level
 
 unfoldable pub failsAt : Table → List ℕ → ℕ → Bool
 failsAt t set n = not (holds (roleOrder t) (t .rows) (induced t set) (lineAt (t .lines) n))

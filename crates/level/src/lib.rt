@@ -8,15 +8,14 @@ use node::Counts;
 ghost use mathlib.Core.Path.{_≡_};
 ghost use mathlib.Core.Bool.{Bool, _&&_, _||_};
 ghost use Prim.Native.Nat.{ℕ, _+_, _-_, _≤_, _<_};
-ghost use lib.Dec.{T, eqb};
+ghost use lib.Dec.{eqb};
 ghost use lib.ListN.{length, take};
 ghost use Rattle.bounds.specs.Bounds.{maxAtoms, maxVariables, maxLines, setBits};
-ghost use Rattle.el.specs.Table.{Table, declared, roleOrder};
+ghost use Rattle.el.specs.Table.{roleOrder};
 ghost use Rattle.el.specs.Walk.{dead};
 ghost use Rattle.table.specs.Reading.{tableOf};
-ghost use Rattle.node.specs.Mask.{Masks, Fills, LineMasks};
-ghost use Rattle.node.specs.Square.{SquareGiven};
-ghost use Rattle.level.specs.Level.{newBy, Back, Out, WaysTo, freshMask, isFresh, Listed, Levels, freshFails};
+ghost use Rattle.node.specs.Mask.{Masks};
+ghost use Rattle.level.specs.Level.{newBy, Back, Out, WaysTo, freshMask, isFresh, Listed, LevelGiven, LevelFor, freshFails};
 ghost use Rattle.level.specs.Sweep.{FreshGiven, ChildGiven, SweepGiven, Sweeps};
 use node::Sets;
 use node::Square;
@@ -127,8 +126,8 @@ fn collect(
 
 // The level of a node: that of its parent's children.
 pub fn level_of(fill: &[VariableMask], mask: &[VariableMask], counts: Counts, sets: Sets) -> Level
-    requires { ⌜ SquareGiven (now fill) (counts .c) (counts .e) sets × (counts .m ≤ maxLines) × (length (now mask) ≡ maxLines) × (0 < sets .chosen) ⌝ }
-    ensures { λ r. ⌜ ((t : Table) → T (declared t) → Fills t (counts .c) (counts .e) (now (fill .entry)) → LineMasks t (counts .m) (now (mask .entry)) → sets .chosen ≤ t .variables → Levels t (take (sets .chosen - 1) (sets .set)) (counts .m) r) ⌝ }
+    requires { ⌜ LevelGiven (now fill) (now mask) counts sets ⌝ }
+    ensures { λ r. ⌜ LevelFor (now (fill .entry)) (now (mask .entry)) counts sets r ⌝ }
 {
     let c = counts.c;
     let e = counts.e;

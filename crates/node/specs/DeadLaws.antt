@@ -138,9 +138,9 @@ module _ {s : List ℕ} {counts : Counts} {sets : Sets} (given : NodeGiven s cou
 
   pub dead-first : {n : ℕ} → T (acyclic t (nodeOf sets)) → n ≡ firstFailing t (nodeOf sets) → ltb n (counts .m) ≡ dead (roleOrder t) t (nodeOf sets)
   unfolding firstFailing
-  dead-first straight e =
+  dead-first is-acyclic e =
       ap₂ ltb e (node-counts .2)
-      ∙ sym (dead-lines (roleOrder t) t (nodeOf sets) (is-true (acyclic t (nodeOf sets)) straight) ∙ first-any (fails (roleOrder t) t (nodeOf sets)) (t .lines))
+      ∙ sym (dead-lines (roleOrder t) t (nodeOf sets) (is-true (acyclic t (nodeOf sets)) is-acyclic) ∙ first-any (fails (roleOrder t) t (nodeOf sets)) (t .lines))
 
   module _ {p : Prepared} (ready-made : Prepares s p) where
     pub node-square : SquareGiven (p .fill) (counts .c) (counts .e) sets
@@ -154,7 +154,7 @@ module _ {s : List ℕ} {counts : Counts} {sets : Sets} (given : NodeGiven s cou
     pub node-begins : (n : ℕ) → n < counts .m → (n < headerOf s .m) × (getD (p .start) n 0 ≡ lineStart s n)
     node-begins n h = (in-table n h, ready-made .starts .at n (in-table n h))
 
-    module _ (straight : T (acyclic t (nodeOf sets))) (room : length (sets .set) ≡ maxVariables) where
+    module _ (is-acyclic : T (acyclic t (nodeOf sets))) (room : length (sets .set) ≡ maxVariables) where
       pub node-line : (n : ℕ) → n < counts .m → LineGiven s (p .over) (p .inner) (sets .set) (counts .c) (counts .e) (counts .v) (getD (p .start) n 0)
       node-line n h = record {
         readable = given .readable;
@@ -162,7 +162,7 @@ module _ {s : List ℕ} {counts : Counts} {sets : Sets} (given : NodeGiven s cou
         restrictions = given .counts-of .restrictions;
         variables = given .counts-of .variables;
         sets = record { many = room };
-        acyclic = subst T (acyclic-same t (nodeOf sets) (sets .set) (same-sets sets (given .clean))) straight;
+        acyclic = subst T (acyclic-same t (nodeOf sets) (sets .set) (same-sets sets (given .clean))) is-acyclic;
         rows = ready-made .rows;
         line = record { number = n; few = in-table n h; begins = node-begins n h .1 };
       }

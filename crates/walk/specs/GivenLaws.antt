@@ -1,7 +1,8 @@
 -- What the table's counts give.
 --
 --   given-variables    == how many variables there are
---   given-node, given-square, given-level, given-sweep == what the test of a node, the level of a node and a sweep are given
+--   given-node, given-level, given-sweep == what the test of a node, the level of a node and a sweep are given
+--   level-is           == the level that is made of it
 --   few-atoms          == how many atoms there are at most
 --   given-table        == the last set number
 use mathlib.Core.Path.{_≡_, sym, ap, _∙_}
@@ -9,22 +10,20 @@ use mathlib.Core.List.{List}
 use Prim.Native.Nat.{ℕ, _+_, _-_, _^_, _≤_, _<_}
 use native.Mathlib.Omega.{arith}
 use lib.Dec.{T}
-use lib.ListN.{length, getD, take}
+use lib.ListN.{getD, take}
 use lib.Pow.{pow-mono}
-use Rattle.bounds.specs.Bounds.{maxAtoms, maxVariables, maxLines}
-use Rattle.el.specs.Table.{Table, declared, atoms}
+use Rattle.bounds.specs.Bounds.{maxAtoms, maxVariables}
+use Rattle.el.specs.Table.{atoms}
 use Rattle.table.specs.Reading.{headerOf, reading, isReadable, tableOf}
 use Rattle.table.specs.LayoutLaws.{layout}
 use Rattle.node.specs.declared.Sets.{Sets}
 use Rattle.node.specs.declared.Counts.{Counts}
 use Rattle.node.specs.declared.Prepared.{Prepared}
-use Rattle.node.specs.Mask.{Fills, LineMasks}
 use Rattle.node.specs.MaskLaws.{each-whole}
 use Rattle.node.specs.Node.{Clean, CountsOf, NodeGiven, Prepares}
-use Rattle.node.specs.Square.{SquareGiven}
 use Rattle.node.specs.DeadLaws.{node-layout, node-counts, node-fills, node-square}
 use Rattle.level.specs.declared.Level.{Level}
-use Rattle.level.specs.Level.{Levels}
+use Rattle.level.specs.Level.{Levels, LevelGiven, LevelFor}
 use Rattle.level.specs.Sweep.{SweepGiven}
 use Rattle.walk.specs.Step.{LiveAboveAt, InRange, LiveAbove, Given}
 
@@ -46,12 +45,11 @@ module _ {s : List ℕ} {counts : Counts} {last : ℕ} (given : Given s counts l
 
     -- the level of the node, and what a sweep from it asks
     module _ {p : Prepared} (prepares : Prepares s p) (some : 0 < sets .chosen) where
-      pub given-square : SquareGiven (p .fill) (counts .c) (counts .e) sets × (counts .m ≤ maxLines) × (length (p .mask) ≡ maxLines) × (0 < sets .chosen)
-      given-square = (node-square given-node prepares, node-counts given-node .1, prepares .mask-room, some)
+      pub given-level : LevelGiven (p .fill) (p .mask) counts sets
+      given-level = record { square = node-square given-node prepares; few-lines = node-counts given-node .1; mask-room = prepares .mask-room; some = some }
 
-      pub given-level : (level : Level) → ((t : Table) → T (declared t) → Fills t (counts .c) (counts .e) (p .fill) → LineMasks t (counts .m) (p .mask) → sets .chosen ≤ t .variables → Levels t (take (sets .chosen - 1) (sets .set)) (counts .m) level)
-          → Levels (tableOf s) (take (sets .chosen - 1) (sets .set)) (counts .m) level
-      given-level level levels =
+      pub level-is : (level : Level) → LevelFor (p .fill) (p .mask) counts sets level → Levels (tableOf s) (take (sets .chosen - 1) (sets .set)) (counts .m) level
+      level-is level levels =
           let q : counts .m ≡ headerOf s .m = given .counts-of .lines in
           levels (tableOf s) (node-layout given-node .all-declared) (node-fills given-node (prepares .fills)) (each-whole (prepares .masks) (omega arith) (omega arith)) (range .few)
 

@@ -17,7 +17,7 @@ abbrev μ-loop : tie.MeasureT-loop
 μ-loop table c e v m over inner mask start set settled n₀ n = m - n
 
 settled-mask-requires : tie.Need-settled-mask-requires Inv-loop μ-loop
-settled-mask-requires c κs = node-few (c .before .before .before .before .before .before .before .before .before .pre .0) .0
+settled-mask-requires c κs = omega (arith, node-few (c .before .before .before .before .before .before .before .before .before .pre .0) .0)
 
 mul-own : tie.Need-mul-own Inv-loop μ-loop
 mul-own c = let h = node-counts (c .before .before .before .before .before .before .before .before .before .before .before .before .pre .0) in search needs

@@ -8,7 +8,7 @@ use Rattle.table.specs.Reading.{tableOf}
 use Rattle.level.specs.Level.{Levels}
 use Rattle.walk.specs.declared.Going.the-variants.{Solved, Over}
 use Rattle.walk.specs.Step.{Running}
-use Rattle.walk.specs.GivenLaws.{given-square, given-level, given-sweep}
+use Rattle.walk.specs.GivenLaws.{given-level, level-is, given-sweep}
 use Rattle.walk.specs.RunLaws.{running-start, running-fits, running-on, running-ended, running-spent}
 use Rattle.walk.proofs.run_below.Statement.{statement}
 use Rattle.walk.proofs.run_below.Tie as tie
@@ -21,10 +21,10 @@ abbrev μ-loop : tie.MeasureT-loop
 μ-loop table over inner fill mask start counts last counted share end sets₀ level₀ count₀ sets level count = end - count
 
 level-of-requires : tie.Need-level-of-requires Inv-loop μ-loop
-level-of-requires c κs = let p = c .before .before .before .before .before .before .pre in given-square (p .0 .0) _ (p .1 .0 .in-range) (p .0 .1) (p .1 .1)
+level-of-requires c κs = let p = c .before .before .before .before .before .before .pre in given-level (p .0 .0) _ (p .1 .0 .in-range) (p .0 .1) (p .1 .1)
 
 loop-holds : tie.Need-loop-holds Inv-loop μ-loop
-loop-holds c = let p = c .before .before .before .before .before .before .before .pre in (running-start _ _ _ _ (omega arith) (p .1 .0) (p .1 .1), given-level (p .0 .0) _ (p .1 .0 .in-range) (p .0 .1) (p .1 .1) _ (c .level-of .ensures))
+loop-holds c = let p = c .before .before .before .before .before .before .before .pre in (running-start _ _ _ _ (omega arith) (p .1 .0) (p .1 .1), level-is (p .0 .0) _ (p .1 .0 .in-range) (p .0 .1) (p .1 .1) _ (c .level-of .ensures))
 
 advance-requires : tie.Need-advance-requires Inv-loop μ-loop
 advance-requires c κs = let p = c .before .before .before .before .before .before .before .before .before .pre .0 in let l = c .before .loop in let r = l .inv .0 in (p .0, given-sweep (p .0) (l .sets) (r .sound .in-range) (p .1) (r .parent) (l .level) (r .sound .live-above) (l .inv .1), omega arith)
@@ -39,7 +39,7 @@ returns-2 : tie.Need-returns-2 Inv-loop μ-loop
 returns-2 c = running-ended (c .before .before .before .before .before .before .loop .inv .0) (c .before .before .before .before .advance .result) (c .before .before .before .before .before .loop-test .taken) (c .before .before .before .before .advance .ensures) Over (c .enum-told2 .given .1) tt _ (omega arith)
 
 level-of-requires-2 : tie.Need-level-of-requires-2 Inv-loop μ-loop
-level-of-requires-2 c κs = let p = c .before .before .before .before .before .before .before .before .before .before .before .before .before .before .pre .0 in let r = running-on (c .before .before .before .before .before .before .loop .inv .0) (c .before .before .before .before .advance .result) (c .before .before .before .before .before .loop-test .taken) (c .before .before .before .before .advance .ensures) (c .enum-told3 .given .1) in given-square (p .0) _ (r .sound .in-range) (p .1) (r .parent)
+level-of-requires-2 c κs = let p = c .before .before .before .before .before .before .before .before .before .before .before .before .before .before .pre .0 in let r = running-on (c .before .before .before .before .before .before .loop .inv .0) (c .before .before .before .before .advance .result) (c .before .before .before .before .before .loop-test .taken) (c .before .before .before .before .advance .ensures) (c .enum-told3 .given .1) in given-level (p .0) _ (r .sound .in-range) (p .1) (r .parent)
 
 loop-less : tie.Need-loop-less Inv-loop μ-loop
 loop-less c = let h = running-fits (c .before .before .before .before .before .before .before .loop .inv .0) (c .before .before .before .before .before .advance .result) (c .before .before .before .before .before .before .loop-test .taken) (c .before .before .before .before .before .advance .ensures) in omega arith
@@ -47,7 +47,7 @@ loop-less c = let h = running-fits (c .before .before .before .before .before .b
 loop-again : tie.Need-loop-again Inv-loop μ-loop
 loop-again c =
     let p = c .before .before .before .before .before .before .before .before .before .before .before .before .before .before .before .pre .0 in let r = running-on (c .before .before .before .before .before .before .before .loop .inv .0) (c .before .before .before .before .before .advance .result) (c .before .before .before .before .before .before .loop-test .taken) (c .before .before .before .before .before .advance .ensures) (c .before .enum-told3 .given .1) in
-    (r, given-level (p .0) _ (r .sound .in-range) (p .1) (r .parent) _ (c .level-of2 .ensures))
+    (r, level-is (p .0) _ (r .sound .in-range) (p .1) (r .parent) _ (c .level-of2 .ensures))
 
 returns-3 : tie.Need-returns-3 Inv-loop μ-loop
 returns-3 c = running-spent (c .before .loop .inv .0) _ (omega arith) (c .loop-test .left)

@@ -9,7 +9,7 @@ add-last-set : tie.Need-add-last-set
 add-last-set c = let h = few-atoms _ _ (c .before .before .before .pre) (c .before .counts-of .ensures) in search needs
 
 last-set-requires : tie.Need-last-set-requires
-last-set-requires c κs = few-atoms _ _ (c .before .before .before .pre) (c .before .counts-of .ensures)
+last-set-requires c κs = omega (arith, few-atoms _ _ (c .before .before .before .pre) (c .before .counts-of .ensures))
 
 walk-from-root-requires : tie.Need-walk-from-root-requires
 walk-from-root-requires c κs = given-table _ _ _ (c .before .before .before .before .pre) (c .before .before .counts-of .ensures) (c .last-set .ensures)

@@ -17,7 +17,7 @@ use borrow.Author.Tests.{eq-eqb, ne-eqb, ltb-true}
 use Rattle.owl.specs.Token.{placeAt, kindAt, endAt}
 use Rattle.owl.specs.TokenLaws.{end-after, progress, more}
 use Rattle.owl.specs.Grammar.{verdict}
-use Rattle.owl_text.specs.Levels.{next, opener, inner, endVerdict, deeper, updated, opened, marked, atToken, depthAt, markAt, stateAt, stops, verdictAt, inBlock, refusing, Clear, Refused, Found}
+use Rattle.owl_text.specs.Levels.{next, endVerdict, deeper, updated, opened, marked, atToken, depthAt, markAt, stateAt, stops, verdictAt, inBlock, refusing, Clear, Refused, Found}
 use Rattle.owl_text.proofs.TableLaws.{block-in, block-out, refusing-in, refusing-out}
 use Rattle.owl_text.proofs.StepLaws.{deeper-most, updated-at, updated-off}
 
@@ -205,7 +205,7 @@ module _ (s : List ℕ) (block at depth most : ℕ) (kept : List ℕ) (R : Readi
         )
 
     kind-here : k ≡ kindAt s (atToken s (R .count))
-    kind-here = u ∙ ap (kindAt s) (R .here)
+    kind-here = same-kind s block at depth most kept R k u
 
     -- a level of the block refuses the token
     pub found-bad : (x : ℕ) → x ≡ inBlock block depth (next (getD kept (depth % 4096) 0) k) (getD kept (depth % 4096) 0) → (k ≡ 0 → ⊥) → refusing block depth x ≡ true → (number place : ℕ) → number ≡ x - 80 →

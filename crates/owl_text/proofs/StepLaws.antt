@@ -6,7 +6,7 @@
 --   turn, run-to         == a token that does not stop, and n of them
 --   Says s n p           == the verdict on s
 --   settled              == the first token that stops gives it
-use mathlib.Core.Path.{_≡_, refl, sym, ap, ap₂, subst, _∙_}
+use mathlib.Core.Path.{_≡_, refl, sym, ap, ap₂, _∙_}
 use mathlib.Core.Bool.{Bool, true, false, _||_, true≢false}
 use mathlib.Core.List.{List, [], _∷_}
 use Prim.Native.Nat.{ℕ, zero, suc, _+_, _-_, _/_, _≤_, _<_}
@@ -20,7 +20,7 @@ use Rattle.owl.specs.TokenLaws.{end-after, progress, more}
 use Rattle.owl.specs.Grammar.{Verdict, verdict, checked}
 use Rattle.owl_text.specs.Levels.{next, opener, inner, endVerdict, run, deeper, updated, opened, marked, atToken, depthAt, markAt, stateAt, stops, verdictAt, Found}
 use Rattle.owl_text.proofs.LevelLaws.{checked-run}
-use Rattle.owl_text.proofs.TableLaws.{opened-none, opened-at}
+use Rattle.owl_text.proofs.TableLaws.{opened-at}
 
 ----------------------------------------------------------------------------------------------------
 -- Small steps of the definitions

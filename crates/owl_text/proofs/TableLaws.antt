@@ -1,4 +1,4 @@
--- Laws of the small functions: what stands in the tables, and what is in the window.
+-- Laws of the small functions: what stands in the tables, and what is in a block.
 --
 --   column-in, next-over, next-in, next-lent              == the table of moves
 --   opener-small, opener-rest         == the kinds of the listed words

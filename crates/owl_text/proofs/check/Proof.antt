@@ -1,9 +1,8 @@
 -- The invariant: every block before this one was read; the measure is how many numbers of blocks are left.
-use mathlib.Core.Path.{_≡_, refl}
+use mathlib.Core.Path.{refl}
 use mathlib.Core.Logic.{inl, inr}
-use Prim.Native.Nat.{_+_, _-_, _/_, _<_}
+use Prim.Native.Nat.{_-_}
 use native.Mathlib.Omega.{arith}
-use lib.ListN.{length}
 use Rattle.owl_text.specs.Levels.{moves, Found}
 use Rattle.owl_text.proofs.StepLaws as steps
 use Rattle.owl_text.proofs.check.Statement.{statement}

@@ -1,10 +1,9 @@
 -- The invariant: so many tokens were read, and the array has the states of the block; the measure is what is left of the text.
-use mathlib.Core.Path.{_≡_, refl, sym, _∙_}
-use Prim.Native.Nat.{_+_, _-_, _≤_, _<_}
+use mathlib.Core.Path.{refl, sym, _∙_}
+use Prim.Native.Nat.{_-_}
 use native.Mathlib.Omega.{arith}
 use lib.ListN.{length}
 use borrow.Author.Needs.{needs}
-use Rattle.owl_text.proofs.StepLaws as steps
 use Rattle.owl_text.proofs.BlockLaws as blocks
 use Rattle.owl_text.proofs.read.Statement.{statement}
 use Rattle.owl_text.proofs.read.Tie as tie

@@ -18,6 +18,7 @@ pub mod GrammarLaws
 pub mod TokenLaws
 pub mod TextLaws
 pub mod ElevenLaws
+pub mod ElevenText
 pub mod UniqueLaws
 pub mod TextCases
 pub mod Theorem

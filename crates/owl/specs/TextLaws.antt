@@ -142,7 +142,7 @@ kind-token k w = go (ltb k 13) refl
     go true e = ap (λ (b : Bool). elim b [ true ↦ k | false ↦ 17 ]) e
     go false e = ap (λ (b : Bool). elim b [ true ↦ 17 | false ↦ k ]) e
 
-kind-at : (s : List ℕ) (at : ℕ) → kind (tokenAt s at) ≡ kindAt s at
+pub kind-at : (s : List ℕ) (at : ℕ) → kind (tokenAt s at) ≡ kindAt s at
 unfolding tokenAt
 kind-at s at = kind-token (kindAt s at) _
 

@@ -208,7 +208,7 @@ static void side_by_side(size_t nests, size_t levels) {
     for (i = 0; i < sizeof wrong / sizeof *wrong; i++) {
         text = row(nests, levels, wrong[i][0], wrong[i][1], &length, &place);
         gives("nests side by side, a wrong token in one", text, length, 10, place);
-        /* a second one behind it, in a level of another block */
+        /* a second one behind it, in level 1 */
         text[length - 1] = '=';
         gives("nests side by side, a second wrong token", text, length, 10, place);
         free(text);

@@ -31,7 +31,8 @@ use Rattle.table.specs.Layout.{lineAt}
 use Rattle.node.specs.declared.Sets.{Sets}
 use Rattle.node.specs.declared.Counts.{Counts}
 use Rattle.node.specs.Mask.{Fills, LineMasks}
-use Rattle.node.specs.Square.{rowOf, SquareGiven}
+use Rattle.node.specs.Node.{DependsGiven}
+use Rattle.node.specs.Square.{rowOf}
 use Rattle.level.specs.declared.Level.{Level}
 
 unfoldable pub newBy : List ℕ → ℕ → ℕ → ℕ → Bool
@@ -72,7 +73,7 @@ pub record Levels (t : Table) (p : Node) (m : ℕ) (level : Level) : Type 0 wher
   pub lines : Listed (λ n. freshly t p (lineAt (t .lines) n)) m (level .fresh) (level .few)
 
 pub record LevelGiven (fill mask : List ℕ) (counts : Counts) (sets : Sets) : Type 0 where
-  pub square : SquareGiven fill (counts .c) (counts .e) sets
+  pub square : DependsGiven fill (counts .c) (counts .e) sets
   pub few-lines : counts .m ≤ maxLines
   pub mask-room : length mask ≡ maxLines
   pub some : 0 < sets .chosen

@@ -3,7 +3,7 @@
 --   about-says, near-says, fresh-says == what the two masks of variables say, and so which lines are listed
 --   ways-tell      == what the atoms that lead to a variable of W say of the children
 --   level-made     == the level that is made so
---   parent-length, parent-square, parent-shows == the node above the node of the sets, and its square
+--   parent-length, parent-depends, parent-shows == the node above the node of the sets, and its square
 use mathlib.Core.Path.{_≡_, sym, ap, ap₂, subst, _∙_}
 use mathlib.Core.Bool.{Bool, true, false, _&&_, _||_, not, or-comm}
 use mathlib.Core.Logic.{_⊎_, inl, inr}
@@ -27,11 +27,11 @@ use Rattle.el.specs.Below.{childOf, newly, freshly}
 use Rattle.table.specs.Layout.{lineAt}
 use Rattle.order.specs.BitLaws.{high-none, bit-and}
 use Rattle.node.specs.declared.Sets.{Sets}
-use Rattle.node.specs.Node.{nodeOf, Clean}
+use Rattle.node.specs.Node.{nodeOf, Clean, DependsGiven}
 use Rattle.node.specs.Mask.{Masks, Picks, Fills, LineMasks}
 use Rattle.node.specs.MaskLaws.{has-bit, none-high, eqb-comm, mask-one, masks-or, ready-by, any-by}
 use Rattle.node.specs.SetsLaws.{clean-up}
-use Rattle.node.specs.Square.{rowOf, dependsBy, SquareGiven, Paths, Shows, Squares, staysBelow, leadsTo}
+use Rattle.node.specs.Square.{rowOf, dependsBy, Paths, Shows, Squares, staysBelow, leadsTo}
 use Rattle.node.specs.DependLaws.{depends-filled}
 use Rattle.node.specs.SquareLaws.{reaches-unchosen}
 use Rattle.node.specs.ReadyLaws.{leads-says}
@@ -213,16 +213,16 @@ module _ (t : Table) (known : T (declared t)) (p : Node) (rows : List ℕ) (few 
 ----------------------------------------------------------------------------------------------------
 -- The parent of a node of the code
 
-module _ {fill : List ℕ} {c e : ℕ} {sets : Sets} (given : SquareGiven fill c e sets) (some : 0 < sets .chosen) (room : length (sets .set) ≡ maxVariables) where
+module _ {fill : List ℕ} {c e : ℕ} {sets : Sets} (given : DependsGiven fill c e sets) (some : 0 < sets .chosen) (room : length (sets .set) ≡ maxVariables) where
   pub parent-length : sets .chosen - 1 ≡ length (take (sets .chosen - 1) (sets .set))
   parent-length = let h : sets .chosen ≤ maxVariables = given .few-chosen in sym (length-take-le (sets .chosen - 1) (sets .set) (omega arith))
 
   abbrev above : Sets
   above = setsOf (set (sets .set) (sets .chosen - 1) 0) (sets .chosen - 1)
 
-  pub parent-square : SquareGiven fill c e above
+  pub parent-depends : DependsGiven fill c e above
   unfolding Clean
-  parent-square =
+  parent-depends =
       let h : sets .chosen ≤ maxVariables = given .few-chosen in
       record { few-atoms = given .few-atoms; room = given .room; few-chosen = omega arith; clean = clean-up (sets .set) (sets .chosen) some (omega arith) (given .clean) }
 

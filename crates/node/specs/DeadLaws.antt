@@ -6,7 +6,7 @@
 --   line-open     == a line that has not only variables of the mask k does not fail so
 --   line-tested   == one that has fails so exactly if it does not hold
 --   node-layout, node-few, node-counts == the table of a node, and how many variables, atoms and lines there are
---   node-fills, node-square == what the square of variables is made from
+--   node-fills, node-depends == what the square of variables is made from
 --   node-begins, node-line == where a line begins, and what the test of a line is given
 --   first-found, first-none == the first line that fails, and where none does
 --   dead-cycle, dead-first == a cyclic node is dead, an acyclic one exactly if there is a first line that fails
@@ -40,9 +40,9 @@ use Rattle.node.specs.declared.Prepared.{Prepared}
 use Rattle.node.specs.Mask.{Picks, FillMasks, Fills}
 use Rattle.node.specs.MaskLaws.{ready-by, next-below}
 use Rattle.node.specs.SetsLaws.{same-sets, length-node}
-use Rattle.node.specs.Square.{SquareGiven, Squares, staysBelow}
+use Rattle.node.specs.Square.{Squares, staysBelow}
 use Rattle.node.specs.ReadyLaws.{settled-says}
-use Rattle.node.specs.Node.{nodeOf, Prepares, NodeGiven, firstAt, firstFailing, failsBy, NoneFails}
+use Rattle.node.specs.Node.{nodeOf, Prepares, NodeGiven, firstAt, firstFailing, failsBy, NoneFails, DependsGiven}
 
 pub any-below : (p : Line → Bool) (l : List Line) → anyOf p l ≡ anyBelow (length l) (λ i. p (lineAt l i))
 unfolding lineAt
@@ -143,8 +143,8 @@ module _ {s : List ℕ} {counts : Counts} {sets : Sets} (given : NodeGiven s cou
       ∙ sym (dead-lines (roleOrder t) t (nodeOf sets) (is-true (acyclic t (nodeOf sets)) is-acyclic) ∙ first-any (fails (roleOrder t) t (nodeOf sets)) (t .lines))
 
   module _ {p : Prepared} (ready-made : Prepares s p) where
-    pub node-square : SquareGiven (p .fill) (counts .c) (counts .e) sets
-    node-square = record {
+    pub node-depends : DependsGiven (p .fill) (counts .c) (counts .e) sets
+    node-depends = record {
       few-atoms = node-counts .0;
       room = let a : counts .c + counts .e ≤ maxAtoms = node-counts .0 in let r : length (p .fill) ≡ maxAtoms = ready-made .fill-room in omega arith;
       few-chosen = node-few .0;

@@ -6,6 +6,7 @@
 --   preparedOf over inner fill mask start == what is prepared, from its parts
 --   Prepares s p      == p is what is prepared of the bytes s, each list with room for the longest table
 --   NodeGiven s counts sets == s is a readable table with these counts, and the sets are a node of it
+--   DependsGiven fill c e sets == what dependences are read from: masks for e restrictions, c + e not too many, and the sets of a node
 --   firstAt p l       == the number of the first line of l that passes p; how many there are where none does
 --   firstFailing t s  == so of the lines of t, for those that are ready and fail at the node s
 --   failsBy t set mask k n == line n, whose variables are those of `mask`, has only variables of the mask k, and does not hold under the sets
@@ -13,7 +14,7 @@
 use mathlib.Core.Path.{_≡_}
 use mathlib.Core.Bool.{Bool, true, false, _&&_, not}
 use mathlib.Core.List.{List, [], _∷_}
-use Prim.Native.Nat.{ℕ, suc, _≤_, _<_}
+use Prim.Native.Nat.{ℕ, suc, _+_, _≤_, _<_}
 use lib.Dec.{T, eqb}
 use lib.Bits.{bitAnd}
 use lib.ListN.{length, getD, take}
@@ -21,7 +22,7 @@ use Rattle.el.specs.Table.{Line, Table, roleOrder}
 use Rattle.el.specs.Meaning.{holds}
 use Rattle.el.specs.Assignment.{induced}
 use Rattle.el.specs.Walk.{Node, fails}
-use Rattle.bounds.specs.Bounds.{maxAtoms, maxLines}
+use Rattle.bounds.specs.Bounds.{maxAtoms, maxVariables, maxLines}
 use Rattle.table.specs.Reading.{reading, isReadable, tableOf, headerOf}
 use Rattle.table.specs.Layout.{lineAt}
 use Rattle.order.specs.Given.{RowsGiven}
@@ -59,6 +60,12 @@ pub record NodeGiven (s : List ℕ) (counts : Counts) (sets : Sets) : Type 0 whe
   pub readable : T (isReadable (reading s))
   pub counts-of : CountsOf s counts
   pub chosen : sets .chosen ≤ counts .v
+  pub clean : Clean sets
+
+pub record DependsGiven (fill : List ℕ) (c e : ℕ) (sets : Sets) : Type 0 where
+  pub few-atoms : c + e ≤ maxAtoms
+  pub room : e ≤ length fill
+  pub few-chosen : sets .chosen ≤ maxVariables
   pub clean : Clean sets
 
 unfoldable pub firstAt : (Line → Bool) → List Line → ℕ

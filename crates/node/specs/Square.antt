@@ -3,7 +3,6 @@
 --   rowOf rows x       == the mask of variable x
 --   dependsBy fill c s k y == bit c + i of s is set for some i below k whose mask of `fill` has the bit y
 --   dependsFrom fill c e set x y == variable x depends on y so, where `set` has the set numbers
---   SquareGiven fill c e sets == `fill` has masks for e restrictions, c + e are not too many, and the sets are those of a node
 --   NoneFrom n d       == from n on no variable depends on any
 --   Paths d j rows     == the mask of each variable shows where it leads over inner variables below j
 --   Direct d rows      == so without inner variables; `DirectTo d x rows`, below x, and the others are empty
@@ -20,15 +19,14 @@ use mathlib.Core.Bool.{Bool, false, _&&_}
 use mathlib.Core.List.{List}
 use Prim.Native.Nat.{ℕ, _+_, _/_, _^_, _≤_}
 use lib.Dec.{eqb}
-use lib.ListN.{length, getD}
+use lib.ListN.{getD}
 use Rattle.el.specs.Test.{anyBelow, bit}
 use Rattle.el.specs.Table.{Table}
 use Rattle.el.specs.Assignment.{depends, path}
 use Rattle.el.specs.Walk.{Node}
-use Rattle.bounds.specs.Bounds.{maxAtoms, maxVariables}
 use Rattle.node.specs.declared.Sets.{Sets}
 use Rattle.node.specs.Mask.{Masks, Each, Fills}
-use Rattle.node.specs.Node.{nodeOf, Clean}
+use Rattle.node.specs.Node.{nodeOf}
 
 abbrev pub rowOf : List ℕ → ℕ → ℕ
 rowOf rows x = getD rows x 0
@@ -39,12 +37,6 @@ dependsBy fill c s k y = anyBelow k (λ i. bit (c + i) s && bit y (getD fill i 0
 
 unfoldable pub dependsFrom : List ℕ → ℕ → ℕ → List ℕ → ℕ → ℕ → Bool
 dependsFrom fill c e set x = dependsBy fill c (getD set x 0) e
-
-pub record SquareGiven (fill : List ℕ) (c e : ℕ) (sets : Sets) : Type 0 where
-  pub few-atoms : c + e ≤ maxAtoms
-  pub room : e ≤ length fill
-  pub few-chosen : sets .chosen ≤ maxVariables
-  pub clean : Clean sets
 
 abbrev pub NoneFrom : ℕ → (ℕ → ℕ → Bool) → Type 0
 NoneFrom n d = (x y : ℕ) → n ≤ x → d x y ≡ false

@@ -24,12 +24,12 @@ use Rattle.el.specs.Assignment.{Assignment, setOf, depends, path, reaches, acyc
 use Rattle.el.specs.NodeLaws.{depends-unchosen}
 use Rattle.bounds.specs.Bounds.{maxVariables}
 use Rattle.node.specs.declared.Sets.{Sets}
-use Rattle.node.specs.Node.{nodeOf, Clean}
+use Rattle.node.specs.Node.{nodeOf, Clean, DependsGiven}
 use Rattle.node.specs.Mask.{Masks, Fills}
 use Rattle.node.specs.MaskLaws.{masks-or, each-none, each-next, each-set}
 use Rattle.node.specs.SetsLaws.{same-sets, length-node}
 use Rattle.node.specs.DependLaws.{depends-filled}
-use Rattle.node.specs.Square.{rowOf, dependsBy, dependsFrom, SquareGiven, NoneFrom, Paths, Direct, Half, Closes, Closing, Squares, NoCycle}
+use Rattle.node.specs.Square.{rowOf, dependsBy, dependsFrom, NoneFrom, Paths, Direct, Half, Closes, Closing, Squares, NoCycle}
 
 ----------------------------------------------------------------------------------------------------
 -- Paths
@@ -162,7 +162,7 @@ square-shows fill c e sets direct rows clean room f g t fills few x y =
     none : NoneFrom (sets .chosen) d
     none x y h = depends-unchosen t s x y (let n : length s ≡ sets .chosen = length-node sets room in omega arith)
 
-module _ {fill : List ℕ} {c e : ℕ} {sets : Sets} (given : SquareGiven fill c e sets) (room : length (sets .set) ≡ maxVariables) (rows : List ℕ) (square : Squares fill c e sets rows)
+module _ {fill : List ℕ} {c e : ℕ} {sets : Sets} (given : DependsGiven fill c e sets) (room : length (sets .set) ≡ maxVariables) (rows : List ℕ) (square : Squares fill c e sets rows)
     (t : Table) (fills : Fills t c e fill) (few : sets .chosen ≤ t .variables) where
   shown : (x : ℕ) → bit x (rowOf rows x) ≡ reaches t (nodeOf sets) x x
   unfolding Squares Paths reaches

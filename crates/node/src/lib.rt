@@ -23,8 +23,8 @@ ghost use Rattle.table.specs.Reading.{reading, isReadable, tableOf, headerOf};
 ghost use Rattle.table.specs.Layout.{LineBegins, AtLine};
 ghost use mathlib.Core.List.{List};
 ghost use Rattle.node.specs.Mask.{Masks, Picks, isAmong, isNamed, Names, MaskFits, FillMasks, Fills, LineMask, LineMasks, LineStarts};
-ghost use Rattle.node.specs.Square.{SquareGiven, dependsBy, dependsFrom, Direct, Closes, Squares, staysBelow, leadsTo};
-ghost use Rattle.node.specs.Node.{nodeOf, CountsOf, Prepares, NodeGiven, firstFailing};
+ghost use Rattle.node.specs.Square.{dependsBy, dependsFrom, Direct, Closes, Squares, staysBelow, leadsTo};
+ghost use Rattle.node.specs.Node.{nodeOf, CountsOf, Prepares, NodeGiven, firstFailing, DependsGiven};
 
 // The counts of a table that the test of a node needs: constants, restrictions, variables and lines.
 pub struct Counts {
@@ -120,7 +120,7 @@ fn depends_row(fill: &[VariableMask], c: usize, e: usize, set: SetNumber) -> Var
 
 // The rows of direct dependences: a variable that is not chosen has none.
 fn direct_rows(fill: &[VariableMask], c: usize, e: usize, sets: Sets) -> Square
-    requires { ⌜ SquareGiven (now fill) c e sets ⌝ }
+    requires { ⌜ DependsGiven (now fill) c e sets ⌝ }
     ensures { λ r. ⌜ Direct (dependsFrom (now (fill .entry)) c e (sets .set)) (r .row) ⌝ }
 {
     let set = sets.set;
@@ -170,7 +170,7 @@ fn close(square: Square, n: usize) -> Square
 
 // The square of variables at a node: row x has a bit for each variable that x reaches.
 pub fn square_of(fill: &[VariableMask], c: usize, e: usize, sets: Sets) -> Square
-    requires { ⌜ SquareGiven (now fill) c e sets ⌝ }
+    requires { ⌜ DependsGiven (now fill) c e sets ⌝ }
     ensures { λ r. ⌜ Squares (now (fill .entry)) c e sets (r .row) ⌝ }
 {
     close(direct_rows(fill, c, e, sets), sets.chosen)
@@ -178,7 +178,7 @@ pub fn square_of(fill: &[VariableMask], c: usize, e: usize, sets: Sets) -> Squar
 
 // Does no variable depend on itself over one or more steps?
 pub fn is_acyclic(fill: &[VariableMask], c: usize, e: usize, sets: Sets) -> bool
-    requires { ⌜ SquareGiven (now fill) c e sets ⌝ }
+    requires { ⌜ DependsGiven (now fill) c e sets ⌝ }
     ensures { λ r. ⌜ ((t : Table) → Fills t c e (now (fill .entry)) → sets .chosen ≤ t .variables → r ≡ acyclic t (nodeOf sets)) ⌝ }
 {
     let square = square_of(fill, c, e, sets);

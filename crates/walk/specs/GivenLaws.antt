@@ -21,7 +21,7 @@ use Rattle.node.specs.declared.Counts.{Counts}
 use Rattle.node.specs.declared.Prepared.{Prepared}
 use Rattle.node.specs.MaskLaws.{each-whole}
 use Rattle.node.specs.Node.{Clean, CountsOf, NodeGiven, Prepares}
-use Rattle.node.specs.DeadLaws.{node-layout, node-counts, node-fills, node-square}
+use Rattle.node.specs.DeadLaws.{node-layout, node-counts, node-fills, node-depends}
 use Rattle.level.specs.declared.Level.{Level}
 use Rattle.level.specs.Level.{Levels, LevelGiven, LevelFor}
 use Rattle.level.specs.Sweep.{SweepGiven}
@@ -46,7 +46,7 @@ module _ {s : List ℕ} {counts : Counts} {last : ℕ} (given : Given s counts l
     -- the level of the node, and what a sweep from it asks
     module _ {p : Prepared} (prepares : Prepares s p) (some : 0 < sets .chosen) where
       pub given-level : LevelGiven (p .fill) (p .mask) counts sets
-      given-level = record { square = node-square given-node prepares; few-lines = node-counts given-node .1; mask-room = prepares .mask-room; some = some }
+      given-level = record { square = node-depends given-node prepares; few-lines = node-counts given-node .1; mask-room = prepares .mask-room; some = some }
 
       pub level-is : (level : Level) → LevelFor (p .fill) (p .mask) counts sets level → Levels (tableOf s) (take (sets .chosen - 1) (sets .set)) (counts .m) level
       level-is level levels =

@@ -3,7 +3,7 @@ use mathlib.Core.Path.{_≡_}
 use native.Mathlib.Omega.{arith}
 use lib.ListN.{length}
 use Rattle.bounds.specs.Bounds.{maxVariables}
-use Rattle.level.specs.LevelLaws.{parent-length, parent-square, parent-shows, level-made}
+use Rattle.level.specs.LevelLaws.{parent-length, parent-depends, parent-shows, level-made}
 use borrow.Author.Needs.{needs}
 use Rattle.level.proofs.level_of.Statement.{statement}
 use Rattle.level.proofs.level_of.Tie as tie
@@ -15,7 +15,7 @@ array-write-set : tie.Need-array-write-set
 array-write-set c = let h = c .before .before .before .before .pre .square .few-chosen in search needs
 
 square-of-requires : tie.Need-square-of-requires
-square-of-requires c κs = parent-square (c .before .before .before .before .pre .square) (c .before .before .before .before .pre .some) (search needs)
+square-of-requires c κs = parent-depends (c .before .before .before .before .pre .square) (c .before .before .before .before .pre .some) (search needs)
 
 leads-mask-requires : tie.Need-leads-mask-requires
 leads-mask-requires c κs = let h = c .before .before .before .before .before .pre .square .few-chosen in (omega arith, omega arith)

@@ -6,7 +6,7 @@ use native.Mathlib.Omega.{arith}
 use borrow.Author.Needs.{needs}
 use Rattle.table.specs.Reading.{tableOf}
 use Rattle.node.specs.Node.{NoneFails}
-use Rattle.node.specs.DeadLaws.{node-few, node-counts, node-square, node-begins, node-line, fails-start, fails-next, line-open, line-tested, first-found, first-none}
+use Rattle.node.specs.DeadLaws.{node-few, node-counts, node-depends, node-begins, node-line, fails-start, fails-next, line-open, line-tested, first-found, first-none}
 use Rattle.node.proofs.first_failing.Statement.{statement}
 use Rattle.node.proofs.first_failing.Tie as tie
 
@@ -47,6 +47,6 @@ pub first-failing-spec : {M : Type 1} → statement M
 first-failing-spec =
     tie.close
     (tie.spec Inv-loop μ-loop (λ c. search needs)
-    (λ c κs. node-square (c .before .before .before .before .before .before .before .before .pre .0) (c .before .before .before .before .before .before .before .before .pre .1))
+    (λ c κs. node-depends (c .before .before .before .before .before .before .before .before .pre .0) (c .before .before .before .before .before .before .before .before .pre .1))
     settled-mask-requires (λ c. (omega arith, fails-start _ _ _ _)) mul-own array-read-own (λ c. search needs) (λ c. search needs) (λ c. search needs)
     mul-line-holds array-read-line-holds line-holds-requires returns (λ c. search needs) (λ c. search needs) loop-again returns-2)

@@ -3,12 +3,12 @@ use mathlib.Core.Path.{sym, _∙_}
 use borrow.Author.Needs.{needs}
 use borrow.Author.Tests.{not-true, not-false}
 use Rattle.el.specs.TestLaws.{true-is}
-use Rattle.node.specs.DeadLaws.{node-few, node-fills, node-square, dead-cycle, dead-first}
+use Rattle.node.specs.DeadLaws.{node-few, node-fills, node-depends, dead-cycle, dead-first}
 use Rattle.node.proofs.is_dead.Statement.{statement}
 use Rattle.node.proofs.is_dead.Tie as tie
 
 is-acyclic-requires : tie.Need-is-acyclic-requires
-is-acyclic-requires c κs = node-square (c .before .before .before .pre .0) (c .before .before .before .pre .1)
+is-acyclic-requires c κs = node-depends (c .before .before .before .pre .0) (c .before .before .before .pre .1)
 
 returns : tie.Need-returns
 returns c = let p = c .before .before .before .before .before .pre in dead-cycle (p .0) (sym (not-true _ (c .if1 .taken)) ∙ c .before .is-acyclic .ensures _ (node-fills (p .0) (p .1 .fills)) (node-few (p .0) .1))

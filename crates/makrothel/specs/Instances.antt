@@ -2,6 +2,7 @@
 -- budget 13 "budget"; an empty input, and P8 with one byte more or with too short an output, are refused.
 --
 --   p5-table, p8-table, p12-table == they are readable
+--   p8-wider                      == and so within larger bounds
 --   p5-more, p8-more, p12-more    == a growth of each
 --   empty-.., longer-.., short-.. == demand 1 at inputs that are refused
 --   p5-.., p8-.., p9-.., p12-..   == the demands at the cases
@@ -12,7 +13,7 @@ use Prim.Native.Nat.{ℕ, _*_, _≤_, _<_}
 use native.Mathlib.Omega.{arith}
 use lib.Dec.{T}
 use lib.ListN.{length}
-use Rattle.bounds.specs.Bounds.{setBytes}
+use Rattle.bounds.specs.Bounds.{Bounds, bounds, maxAtoms, maxRoles, maxVariables, maxLines, maxLeft, setBytes}
 use Rattle.el.specs.Table.{roleOrder}
 use Rattle.el.specs.Meaning.{Substitution, makes}
 use Rattle.el.specs.Assignment.{Assignment}
@@ -21,7 +22,8 @@ use Rattle.answer.specs.declared.Answer.the-variants.{Solved, EndsEarly, BytesA
 use Rattle.answer.specs.Handed.{handed}
 use Rattle.answer.specs.HandedLaws.{handed-apart}
 use Rattle.table.specs.Code.{kindOf, within, fillerOfKind, fillerOf, entryOfKind, entryOf}
-use Rattle.table.specs.Reading.{marked, versionOne, readCounts, readHeader, readMany, readRow, readEntry, readLine, readBody, reading, headerOf, tableOf}
+use Rattle.table.specs.Reading.{marked, versionOne, readCounts, readHeader, readMany, readRow, readEntry, readLine, readBody, readable, readingWithin, reading, headerOf, tableOf}
+use Rattle.table.specs.WiderLaws.{readable-wider}
 use Rattle.table.specs.Bytes.{countsOf, IsTable}
 use Rattle.table.specs.Refusal.{RefusedAt, header-cut}
 use Rattle.table.specs.RefusalLaws.{refused-means}
@@ -54,6 +56,16 @@ p8-table = tables .1
 
 pub p12-table : IsTable (p12 .bytes) (tableOf (p12 .bytes))
 p12-table = tables .2
+
+-- within larger bounds P8 is read as the same table
+abbrev larger : Bounds
+larger = record { atoms = 2 * maxAtoms; roles = maxRoles; variables = 2 * maxVariables; lines = maxLines; left = maxLeft }
+
+pub p8-wider : readingWithin larger (p8 .bytes) ≡ readable (headerOf (p8 .bytes)) (tableOf (p8 .bytes))
+unfolding tableOf reading readBody readLine readEntry readRow readMany readHeader readCounts versionOne marked entryOf entryOfKind fillerOf fillerOfKind within kindOf
+p8-wider =
+    readable-wider bounds larger (record { atoms = omega arith; roles = omega arith; variables = omega arith; lines = omega arith; left = omega arith })
+    (p8 .bytes) (headerOf (p8 .bytes)) (tableOf (p8 .bytes)) refl
 
 -- how many variables they have
 variables : (tableOf (p5 .bytes) .variables ≡ 1) × (tableOf (p8 .bytes) .variables ≡ 2) × (tableOf (p12 .bytes) .variables ≡ 1)

@@ -11,6 +11,7 @@ pub mod StepLaws
 pub mod First
 pub mod FirstLaws
 pub mod TestLaws
+pub mod BitLaws
 pub mod TableLaws
 pub mod ReachLaws
 pub mod Conjuncts

@@ -25,7 +25,7 @@ use Rattle.el.specs.ReachLaws.{reaches-means, reaches-declared}
 use Rattle.el.specs.Walk.{Node, lineVariables}
 use Rattle.el.specs.Below.{childOf, newly, freshly}
 use Rattle.table.specs.Layout.{lineAt}
-use Rattle.order.specs.BitLaws.{high-none, bit-and}
+use Rattle.el.specs.BitLaws.{high-none, bit-and}
 use Rattle.node.specs.declared.Sets.{Sets}
 use Rattle.node.specs.Node.{nodeOf, Clean, DependsGiven}
 use Rattle.node.specs.Mask.{Masks, Picks, Fills, LineMasks}

@@ -16,7 +16,7 @@ use lib.ListN.{getD}
 use borrow.Author.Tests.{eq-eqb, ne-eqb}
 use Rattle.el.specs.Test.{anyBelow, bit}
 use Rattle.el.specs.TestLaws.{is-true, true-is, false-not, or-right, or-cases, and-make, and-left, and-right, anyBelow-next, anyBelow-none, bit-none}
-use Rattle.order.specs.BitLaws.{high-none, bit-or}
+use Rattle.el.specs.BitLaws.{high-none, bit-or}
 use Rattle.node.specs.Mask.{Masks}
 use Rattle.node.specs.MaskLaws.{some-high, next-below}
 use Rattle.node.specs.Square.{rowOf}

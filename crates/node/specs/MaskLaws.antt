@@ -29,7 +29,7 @@ use lib.Seq.{getD-set-same, getD-set-other}
 use Rattle.el.specs.Test.{anyOf, everyOf, bit}
 use Rattle.el.specs.TestLaws.{is-true, true-is, false-not, same-test, or-left, or-right, or-cases, and-make, and-left, and-right, anyOf-hit, anyOf-found, bit-none, bit-first, bit-next}
 use Rattle.bounds.specs.Bounds.{maskBits, masks}
-use Rattle.order.specs.BitLaws.{bit-power, bit-more, bit-or, bit-and}
+use Rattle.el.specs.BitLaws.{bit-power, bit-more, bit-or, bit-and}
 use Rattle.node.specs.Mask.{Masks, Picks, isAmong, Each}
 
 ----------------------------------------------------------------------------------------------------

@@ -17,7 +17,7 @@ use Rattle.el.specs.Table.{Table, declared}
 use Rattle.el.specs.Assignment.{reaches}
 use Rattle.el.specs.Walk.{Node, settled}
 use Rattle.el.specs.NodeLaws.{settled-chosen, settled-reached, settled-make}
-use Rattle.order.specs.BitLaws.{high-none}
+use Rattle.el.specs.BitLaws.{high-none}
 use Rattle.node.specs.Mask.{Masks, Picks}
 use Rattle.node.specs.MaskLaws.{none-high}
 use Rattle.node.specs.Square.{rowOf, Paths, Shows, staysBelow, leadsTo}

@@ -27,7 +27,7 @@ use Rattle.el.specs.Assignment.{Assignment}
 use Rattle.table.specs.Reading.{tableOf, headerOf}
 use Rattle.table.specs.Layout.{IsRowFiller}
 use Rattle.table.specs.LayoutLaws.{layout}
-use Rattle.order.specs.BitLaws.{bit-on, bit-off, bit-more, high-none, bit-and, bit-missing}
+use Rattle.el.specs.BitLaws.{bit-on, bit-off, bit-more, high-none, bit-and, bit-missing}
 use Rattle.order.specs.Rule.{fillerSet, atomRow, flatTest, atomTest, setTest, fillerTest}
 use Rattle.order.specs.RuleLaws.{any-one, set-itself}
 use Rattle.order.specs.Given.{fillerFrom, RowsGiven, LineGiven}

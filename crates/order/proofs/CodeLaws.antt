@@ -18,7 +18,7 @@ use Rattle.table.specs.declared.Kind.{Kind}
 use Rattle.table.specs.declared.Kind.the-variants.{Top, Constant, Restriction, Variable, Other}
 use Rattle.table.specs.Code.{kindOf, fillerOf, fillerOfKind, entryOf, entryOfKind, WritesFiller, fills-top, fills-constant, fills-variable, WritesEntry, enters-constant, enters-restriction, enters-variable}
 use Rattle.table.specs.CodeLaws.{within-some, within-is, filler-writes, entry-writes}
-use Rattle.order.specs.BitLaws.{power-fits}
+use Rattle.bounds.specs.WidthLaws.{power-fits}
 use Rattle.order.specs.Rule.{fillerSet, entrySet, isConstant, flatTest}
 use Rattle.order.specs.Given.{fillerFromKind, fillerFrom, entryFromKind, entryFrom, FillerFits, EntryFits, SetsGiven}
 

@@ -20,7 +20,8 @@ use Rattle.el.specs.TestLaws.{bit-none}
 use Rattle.el.specs.Table.{rowAt, roleOrder}
 use Rattle.table.specs.Reading.{tableOf, headerOf}
 use Rattle.table.specs.Layout.{IsRowFiller}
-use Rattle.order.specs.BitLaws.{power-fits, bit-power, bit-or}
+use Rattle.bounds.specs.WidthLaws.{power-fits}
+use Rattle.el.specs.BitLaws.{bit-power, bit-or}
 use Rattle.order.specs.Given.{Over, RowsTo, RowsGiven}
 
 -- one number more among those below n

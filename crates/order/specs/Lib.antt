@@ -1,4 +1,3 @@
-pub mod BitLaws
 pub mod Rule
 pub mod RuleLaws
 pub mod Given

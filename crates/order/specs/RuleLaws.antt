@@ -35,7 +35,7 @@ use Rattle.el.specs.Meaning.{Substitution, fillerUnder, rowUnder, entryUnder, l
 use Rattle.el.specs.Assignment.{Assignment, setOf, acyclic, atomUnder, conjoin, setUnder, inducedTo, induced}
 use Rattle.el.specs.TableLaws.{row-declared}
 use Rattle.el.specs.InducedLaws.{conjoin-below, conjoin-name, conjoin-some, atomUnder-constant, atomUnder-row, induced-at}
-use Rattle.order.specs.BitLaws.{bit-power, bit-or}
+use Rattle.el.specs.BitLaws.{bit-power, bit-or}
 use Rattle.order.specs.Rule.{fillerSet, entrySet, unionTo, leftSet, atomRow, flatTest, atomTest, setTest, fillerTest, entryTest, leftTest, lineTest}
 
 ----------------------------------------------------------------------------------------------------

@@ -5,7 +5,7 @@ use Prim.Native.Nat.{_-_, _≤_}
 use native.Mathlib.Omega.{arith}
 use Rattle.el.specs.Test.{bit}
 use Rattle.node.specs.Mask.{Masks}
-use Rattle.order.specs.BitLaws.{bit-on, bit-off}
+use Rattle.el.specs.BitLaws.{bit-on, bit-off}
 use Rattle.level.specs.Level.{newBy}
 use Rattle.level.specs.WaysLaws.{new-start, new-more, new-skip, new-empty, new-whole}
 use borrow.Author.Needs.{needs}

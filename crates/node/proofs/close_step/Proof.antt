@@ -8,7 +8,7 @@ use lib.ListN.{length, length-set}
 use Rattle.node.specs.SquareLaws.{closing-start, closing-whole, closing-more, closing-skip, closes-nowhere}
 use Rattle.bounds.specs.Bounds.{maxVariables}
 use Rattle.node.specs.Square.{Closing}
-use Rattle.order.specs.BitLaws.{bit-on, bit-off}
+use Rattle.el.specs.BitLaws.{bit-on, bit-off}
 use Rattle.node.proofs.close_step.Statement.{statement}
 use Rattle.node.proofs.close_step.Tie as tie
 

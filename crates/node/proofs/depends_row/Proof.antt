@@ -8,7 +8,7 @@ use Rattle.el.specs.Test.{bit}
 use Rattle.node.specs.DependLaws.{depends-start, depends-more, depends-skip, depends-whole}
 use Rattle.node.specs.Mask.{Masks}
 use Rattle.node.specs.Square.{dependsBy}
-use Rattle.order.specs.BitLaws.{bit-on, bit-off}
+use Rattle.el.specs.BitLaws.{bit-on, bit-off}
 use Rattle.node.proofs.depends_row.Statement.{statement}
 use Rattle.node.proofs.depends_row.Tie as tie
 

@@ -5,7 +5,7 @@ use native.Mathlib.Omega.{arith}
 use borrow.Author.Needs.{needs}
 use lib.ListN.{length}
 use Rattle.bounds.specs.Bounds.{maxVariables}
-use Rattle.order.specs.BitLaws.{bit-on, bit-off}
+use Rattle.el.specs.BitLaws.{bit-on, bit-off}
 use Rattle.node.specs.MaskLaws.{each-none, each-next}
 use Rattle.node.specs.Square.{NoCycle}
 use Rattle.node.specs.SquareLaws.{acyclic-none, acyclic-not}

@@ -6,7 +6,7 @@ use native.Mathlib.Omega.{arith}
 use borrow.Author.Needs.{needs}
 use lib.ListN.{length}
 use Rattle.bounds.specs.Bounds.{maxVariables}
-use Rattle.order.specs.BitLaws.{bit-on, bit-off}
+use Rattle.el.specs.BitLaws.{bit-on, bit-off}
 use Rattle.node.specs.Mask.{Picks}
 use Rattle.node.specs.MaskLaws.{pick-start, pick-more, pick-skip, pick-whole}
 use Rattle.node.specs.Square.{leadsTo}

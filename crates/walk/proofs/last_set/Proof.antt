@@ -2,7 +2,7 @@
 use Prim.Native.Nat.{_<_, _^_}
 use native.Mathlib.Omega.{arith}
 use lib.Pow.{pow-pos}
-use Rattle.order.specs.BitLaws.{power-fits}
+use Rattle.bounds.specs.WidthLaws.{power-fits}
 use borrow.Author.Needs.{needs}
 use Rattle.walk.proofs.last_set.Statement.{statement}
 use Rattle.walk.proofs.last_set.Tie as tie

@@ -1,7 +1,6 @@
 -- The bits of numbers: of a power, of a rest, and of numbers joined bit by bit.
 --
 --   bit-on, bit-off == a bit as the machine tests it
---   power-fits  == 2 ^ k as the machine shifts it
 --   bit-power   == the number 2 ^ k has bit k alone
 --   bit-more    == the bits of a rest
 --   high-none   == a number has no bit from k on where nothing is left after a shift by k
@@ -13,15 +12,14 @@ use mathlib.Core.Path.{_≡_, refl, sym, ap, _∙_}
 use mathlib.Core.Bool.{Bool, true, false, _&&_, _||_, not}
 use Prim.Native.Nat.{ℕ, zero, suc, _+_, _-_, _*_, _/_, _%_, _^_, _≤_, _<_, min, max}
 use native.Mathlib.Omega.{arith}
-use native.Mathlib.Nat.{one-mul, pow-suc, div-eq-of-lt, div-self, mul-div-cancel}
+use native.Mathlib.Nat.{pow-suc, div-eq-of-lt, div-self, mul-div-cancel}
 use native.Mathlib.Decide.{ℕ-discrete, decLt}
 use lib.Dec.{eqb}
 use lib.Bits.{bitOr, bitAnd, bitXor, differ, or-shr, or-step, and-shr, and-step, xor-shr, xor-step}
-use lib.Pow.{pow-pos, pow-lt, pow-add, shl-exact, shr-shr}
+use lib.Pow.{pow-pos, pow-lt, pow-add, shr-shr}
 use borrow.Author.Tests.{eq-eqb, ne-eqb}
-use Rattle.bounds.specs.Bounds.{setBits, setNumbers}
 use Rattle.el.specs.Test.{bit}
 use Rattle.el.specs.TestLaws.{bit-none}
 
 ----------------------------------------------------------------------------------------------------
 -- Bits of one number
@@ -33,9 +31,6 @@ bit-on i s e = eq-eqb (s / 2 ^ i % 2) 1 e
 pub bit-off : (i s : ℕ) → (s / 2 ^ i % 2 ≡ 1 → ⊥) → bit i s ≡ false
 unfolding bit
 bit-off i s e = ne-eqb (s / 2 ^ i % 2) 1 e
-
-pub power-fits : (k : ℕ) → k < setBits → 1 * 2 ^ k % setNumbers ≡ 2 ^ k
-power-fits k h = shl-exact 1 k setBits (omega arith) (omega arith) ∙ one-mul (2 ^ k)
 
 even : (d : ℕ) → 2 ^ suc d % 2 ≡ 0
 even d = rw (pow-suc 2 d) (omega arith)

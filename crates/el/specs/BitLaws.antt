@@ -2,6 +2,7 @@
 --
 --   bit-on, bit-off == a bit as the machine tests it
 --   bit-power   == the number 2 ^ k has bit k alone
+--   bit-first-ones == the number 2 ^ k - 1 has the bits below k
 --   bit-more    == the bits of a rest
 --   high-none   == a number has no bit from k on where nothing is left after a shift by k
 --   bit-or      == the bits of `a | b`
@@ -14,12 +15,12 @@ use Prim.Native.Nat.{ℕ, zero, suc, _+_, _-_, _*_, _/_, _%_, _^_, _≤_, _<_, m
 use native.Mathlib.Omega.{arith}
 use native.Mathlib.Nat.{pow-suc, div-eq-of-lt, div-self, mul-div-cancel}
 use native.Mathlib.Decide.{ℕ-discrete, decLt}
-use lib.Dec.{eqb}
+use lib.Dec.{eqb, ltb, ltb→lt, lt→ltb}
 use lib.Bits.{bitOr, bitAnd, bitXor, differ, or-shr, or-step, and-shr, and-step, xor-shr, xor-step}
 use lib.Pow.{pow-pos, pow-lt, pow-add, shr-shr}
-use borrow.Author.Tests.{eq-eqb, ne-eqb}
+use borrow.Author.Tests.{eq-eqb, ne-eqb, lt-ltb, le-ltb}
 use Rattle.el.specs.Test.{bit}
-use Rattle.el.specs.TestLaws.{bit-none}
+use Rattle.el.specs.TestLaws.{same-test, bit-none, bit-first, bit-next}
 
 ----------------------------------------------------------------------------------------------------
 -- Bits of one number
@@ -52,6 +53,15 @@ bit-power i k = go (ℕ-discrete i k) (decLt i k)
     go (yes e) l = ap (λ (m : ℕ). eqb (2 ^ k / 2 ^ m % 2) 1) e ∙ ap (λ (m : ℕ). eqb (m % 2) 1) (div-self (pow-pos k)) ∙ sym (eq-eqb i k e)
     go (no n) (yes l) = ap (λ (m : ℕ). eqb m 1) (low (k - suc i) (omega arith)) ∙ sym (ne-eqb i k n)
     go (no n) (no l) = ap (λ (m : ℕ). eqb (m % 2) 1) (high (omega arith)) ∙ sym (ne-eqb i k n)
+
+pub bit-first-ones : (k i : ℕ) → bit i (2 ^ k - 1) ≡ ltb i k
+bit-first-ones zero i = bit-none i ∙ sym (le-ltb i 0 (omega arith))
+bit-first-ones (suc k) zero =
+    bit-first (2 ^ suc k - 1) ∙ eq-eqb ((2 ^ suc k - 1) % 2) 1 (rw (pow-suc 2 k) (let p : 0 < 2 ^ k = pow-pos k in omega arith)) ∙ sym (lt-ltb 0 (suc k) (omega arith))
+bit-first-ones (suc k) (suc i) =
+    bit-next i (2 ^ suc k - 1) ∙ ap (bit i) (let z : (2 ^ suc k - 1) / 2 ≡ 2 ^ k - 1 = rw (pow-suc 2 k) (let p : 0 < 2 ^ k = pow-pos k in omega arith) in z)
+    ∙ bit-first-ones k i ∙ same-test (ltb i k) (ltb (suc i) (suc k)) (λ u. lt→ltb (suc i) (suc k) (let h : i < k = ltb→lt i k u in omega arith))
+    (λ u. lt→ltb i k (let h : suc i < suc k = ltb→lt (suc i) (suc k) u in omega arith))
 
 pub bit-more : (k i n : ℕ) → bit i (n / 2 ^ k) ≡ bit (k + i) n
 unfolding bit

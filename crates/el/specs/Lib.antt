@@ -14,6 +14,7 @@ pub mod TestLaws
 pub mod BitLaws
 pub mod TableLaws
 pub mod ReachLaws
+pub mod CircleLaws
 pub mod Conjuncts
 pub mod OrderLaws
 pub mod Below

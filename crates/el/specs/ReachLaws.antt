@@ -4,10 +4,13 @@
 --   path-step           == one step is a path, whatever its inner variables may be
 --   path-join           == two paths meet in a variable that may be an inner one
 --   path-reaches        == a path is a chain
---   reaches-path        == a chain is a path, where every step leads below v
+--   reaches-first       == the first step of a chain
+--   Inner d v           == what a step leads to, and another leads on from, is below v
+--   reaches-path        == a chain is a path, where inner variables are below v
 --   path-same           == steps that agree give paths that agree
 --   depends-declared    == what a variable depends on is declared
 --   reaches-declared    == so is what it reaches
+--   acyclic-says        == the test `acyclic` says so where inner variables are declared
 --   reaches-means       == the test `reaches` says: over one or more steps
 --   depends-reaches     == a direct dependence is one over one or more steps
 --   reaches-trans       == what is reached from what is reached
@@ -30,6 +33,9 @@ use Rattle.el.specs.Assignment.{Assignment, setOf, isVariable, depends, 
 
 ----------------------------------------------------------------------------------------------------
 -- Chains and paths of any steps
+
+abbrev pub Inner : (ℕ → ℕ → Bool) → ℕ → Type 0
+Inner d v = (x y z : ℕ) → T (d x y) → T (d y z) → y < v
 
 module _ (d : ℕ → ℕ → Bool) where
   pub reaches-join : {x y z : ℕ} → Reaches d x y → Reaches d y z → Reaches d x z
@@ -90,14 +96,43 @@ module _ (d : ℕ → ℕ → Bool) where
       go (inl s) rest = rest x y s
       go (inr s) rest = reaches-join (rest x j (s .0)) (rest j y (s .1))
 
-  pub reaches-path : (v : ℕ) → ((x y : ℕ) → T (d x y) → y < v) → {x y : ℕ} → Reaches d x y → T (path d v x y)
-  reaches-path v low {x} {y} (once t) = path-step v x y t
-  reaches-path v low {x} {y} (then {y = z} t r) = path-join v x z y (low x z t) (path-step v x z t) (reaches-path v low r)
+  pub reaches-first : {x y : ℕ} → Reaches d x y → (z : ℕ) × T (d x z)
+  reaches-first {x} {y} (once t) = (y, t)
+  reaches-first (then {y = z} t r) = (z, t)
+
+  pub reaches-path : (v : ℕ) → Inner d v → {x y : ℕ} → Reaches d x y → T (path d v x y)
+  reaches-path v inner {x} {y} (once t) = path-step v x y t
+  reaches-path v inner {x} {y} (then {y = z} t r) =
+      let f = reaches-first r in path-join v x z y (inner x z (f .0) t (f .1)) (path-step v x z t) (reaches-path v inner r)
+
+  -- a number that leads to itself is an inner one
+  reaches-inner : (v : ℕ) → Inner d v → {x : ℕ} → Reaches d x x → x < v
+  reaches-inner v inner {x} (once t) = inner x x x t t
+  reaches-inner v inner {x} (then {y = z} t r) = go r
+    where
+      go : {y : ℕ} → Reaches d y x → x < v
+      go {y} (once u) = inner y x z u t
+      go (then u s) = go s
 
 pub path-same : (d e : ℕ → ℕ → Bool) → ((x y : ℕ) → d x y ≡ e x y) → (j x y : ℕ) → path d j x y ≡ path e j x y
 unfolding path
 path-same d e f zero x y = f x y
 path-same d e f (suc j) x y = ap₂ _||_ (path-same d e f j x y) (ap₂ _&&_ (path-same d e f j x j) (path-same d e f j j y))
+
+----------------------------------------------------------------------------------------------------
+-- Dependence where inner variables are declared
+
+module _ (t : Table) (a : Assignment) (inner : Inner (depends t a) (t .variables)) where
+  reaches-says : (x y : ℕ) → T (reaches t a x y) ↔ Reaches (depends t a) x y
+  unfolding reaches
+  reaches-says x y = (path-reaches (depends t a) (t .variables) x y, λ r. reaches-path (depends t a) (t .variables) inner r)
+
+  pub acyclic-says : T (acyclic t a) ↔ Acyclic t a
+  unfolding acyclic Acyclic
+  acyclic-says = (
+    (λ u x r. T-not (reaches t a x x) (allBelow-at (t .variables) x (λ y. not (reaches t a y y)) u (reaches-inner (depends t a) (t .variables) inner r)) (reaches-says x x .1 r)),
+    λ f. allBelow-all (t .variables) (λ y. not (reaches t a y y)) (λ x h. not-T (reaches t a x x) (λ u. f x (reaches-says x x .0 u))),
+  )
 
 ----------------------------------------------------------------------------------------------------
 -- Dependence in a table whose names are declared
@@ -121,8 +156,7 @@ module _ (t : Table) (known : T (declared t)) (a : Assignment) where
   reaches-declared (then u r) = reaches-declared r
 
   pub reaches-means : (x y : ℕ) → T (reaches t a x y) ↔ Reaches (depends t a) x y
-  unfolding reaches
-  reaches-means x y = (path-reaches (depends t a) (t .variables) x y, λ r. reaches-path (depends t a) (t .variables) depends-declared r)
+  reaches-means = reaches-says t a (λ x y z u w. depends-declared x y u)
 
   pub depends-reaches : (x y : ℕ) → T (depends t a x y) → T (reaches t a x y)
   depends-reaches x y u = reaches-means x y .1 (once u)
@@ -131,11 +165,7 @@ module _ (t : Table) (known : T (declared t)) (a : Assignment) where
   reaches-trans x y z u w = reaches-means x z .1 (reaches-join (depends t a) (reaches-means x y .0 u) (reaches-means y z .0 w))
 
   pub acyclic-means : T (acyclic t a) ↔ Acyclic t a
-  unfolding acyclic Acyclic
-  acyclic-means = (
-    (λ u x r. T-not (reaches t a x x) (allBelow-at (t .variables) x (λ y. not (reaches t a y y)) u (reaches-declared r)) (reaches-means x x .1 r)),
-    λ f. allBelow-all (t .variables) (λ y. not (reaches t a y y)) (λ x h. not-T (reaches t a x x) (λ u. f x (reaches-means x x .0 u))),
-  )
+  acyclic-means = acyclic-says t a (λ x y z u w. depends-declared x y u)
 
 ----------------------------------------------------------------------------------------------------
 -- Assignments that give the same sets

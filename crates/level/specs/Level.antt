@@ -1,8 +1,6 @@
 -- What the children of one live node share.
 --
---   newBy rows d n w        == a variable with the direct dependences d leads to w, over the rows of the first n variables
 --   Back y w, Out y w       == w is y itself, w comes after y
---   WaysTo W fill rows c y k mask == the mask has the atoms of those of the first k restrictions that lead a variable y with them to one of W
 --   Tells t p W mask        == a child of p whose newest set has an atom of the mask leads to a variable of W by it, and no other child does
 --   passing q n             == the numbers below n that pass q, in rising order
 --   freshMask own a k       == the mask `own` has a bit of the mask a, and only bits of the mask k
@@ -10,18 +8,18 @@
 --   Listed q n fresh few    == the first `few` numbers of `fresh` are those below n that pass q
 --   Levels t p m level      == the level is that of the children of the node p
 --   LevelGiven fill mask counts sets == what a level is made of: masks of restrictions and lines, and the sets of a node that has a parent
---   LevelFor fill mask counts sets level == the level is that of the parent's children, whatever table has these masks and counts
+--   LevelFor fill mask counts sets level == the level is that of the parent's children, whatever table within the bounds has these masks and counts
 --   failsAt t set n         == line n does not hold under the sets
 --   freshFails t set fresh few == one of the lines listed does not
 use mathlib.Core.Path.{_≡_}
-use mathlib.Core.Bool.{Bool, true, false, _&&_, _||_, not}
+use mathlib.Core.Bool.{Bool, true, false, _&&_, not}
 use mathlib.Core.List.{List, [], _∷_, _++_}
-use Prim.Native.Nat.{ℕ, zero, suc, _+_, _-_, _≤_, _<_}
+use Prim.Native.Nat.{ℕ, zero, suc, _-_, _≤_, _<_}
 use lib.Dec.{T, eqb}
 use lib.ListN.{length, getD, take}
 use lib.Bits.{bitAnd}
-use Rattle.bounds.specs.Bounds.{maxLines}
-use Rattle.el.specs.Test.{anyBelow, bit}
+use Rattle.bounds.specs.Bounds.{maxVariables, maxLines}
+use Rattle.el.specs.Test.{anyBelow}
 use Rattle.el.specs.Table.{Table, declared, roleOrder}
 use Rattle.el.specs.Meaning.{holds}
 use Rattle.el.specs.Assignment.{induced}
@@ -32,21 +30,13 @@ use Rattle.node.specs.declared.Sets.{Sets}
 use Rattle.node.specs.declared.Counts.{Counts}
 use Rattle.node.specs.Mask.{Fills, LineMasks}
 use Rattle.node.specs.Node.{DependsGiven}
-use Rattle.node.specs.Square.{rowOf}
 use Rattle.level.specs.declared.Level.{Level}
-
-unfoldable pub newBy : List ℕ → ℕ → ℕ → ℕ → Bool
-newBy rows d n w = bit w d || anyBelow n (λ u. bit u d && bit w (rowOf rows u))
 
 abbrev pub Back : ℕ → ℕ → Type 0
 Back y w = w ≡ y
 
 abbrev pub Out : ℕ → ℕ → Type 0
 Out y w = y < w
-
-pub record WaysTo (W : ℕ → Type 0) (fill rows : List ℕ) (c y k mask : ℕ) : Type 0 where
-  pub marked : (i : ℕ) → bit i mask ≡ true → (j : ℕ) × (j < k) × (i ≡ c + j) × (w : ℕ) × W w × (newBy rows (getD fill j 0) y w ≡ true)
-  pub marks : (j : ℕ) → j < k → (w : ℕ) → W w → newBy rows (getD fill j 0) y w ≡ true → bit (c + j) mask ≡ true
 
 pub record Tells (t : Table) (p : Node) (W : ℕ → Type 0) (mask : ℕ) : Type 0 where
   pub some : (x : ℕ) → (bitAnd x mask ≡ 0 → ⊥) → (w : ℕ) × W w × (newly t p x w ≡ true)
@@ -73,14 +63,14 @@ pub record Levels (t : Table) (p : Node) (m : ℕ) (level : Level) : Type 0 wher
   pub lines : Listed (λ n. freshly t p (lineAt (t .lines) n)) m (level .fresh) (level .few)
 
 pub record LevelGiven (fill mask : List ℕ) (counts : Counts) (sets : Sets) : Type 0 where
-  pub square : DependsGiven fill (counts .c) (counts .e) sets
+  pub depends : DependsGiven fill (counts .c) (counts .e) (sets .chosen)
   pub few-lines : counts .m ≤ maxLines
   pub mask-room : length mask ≡ maxLines
   pub some : 0 < sets .chosen
 
 abbrev pub LevelFor : List ℕ → List ℕ → Counts → Sets → Level → Type 0
 LevelFor fill mask counts sets level =
-    (t : Table) → T (declared t) → Fills t (counts .c) (counts .e) fill → LineMasks t (counts .m) mask → sets .chosen ≤ t .variables
+    (t : Table) → T (declared t) → t .variables ≤ maxVariables → Fills t (counts .c) (counts .e) fill → LineMasks t (counts .m) mask → sets .chosen ≤ t .variables
     → Levels t (take (sets .chosen - 1) (sets .set)) (counts .m) level
 
 unfoldable pub failsAt : Table → List ℕ → ℕ → Bool

@@ -1,6 +1,5 @@
 pub mod Level
 pub mod Sweep
-pub mod WaysLaws
 pub mod ListedLaws
 pub mod LevelLaws
 pub mod ChildLaws

@@ -6,19 +6,15 @@ use bounds::SetNumber;
 use bounds::VariableMask;
 use node::Counts;
 ghost use mathlib.Core.Path.{_≡_};
-ghost use mathlib.Core.Bool.{Bool, _&&_, _||_};
-ghost use Prim.Native.Nat.{ℕ, _+_, _-_, _≤_, _<_};
-ghost use lib.Dec.{eqb};
+ghost use Prim.Native.Nat.{_≤_};
 ghost use lib.ListN.{length, take};
-ghost use Rattle.bounds.specs.Bounds.{maxAtoms, maxVariables, maxLines, setBits};
+ghost use Rattle.bounds.specs.Bounds.{maxLines};
 ghost use Rattle.el.specs.Table.{roleOrder};
 ghost use Rattle.el.specs.Walk.{dead};
 ghost use Rattle.table.specs.Reading.{tableOf};
-ghost use Rattle.node.specs.Mask.{Masks};
-ghost use Rattle.level.specs.Level.{newBy, Back, Out, WaysTo, freshMask, isFresh, Listed, LevelGiven, LevelFor, freshFails};
+ghost use Rattle.level.specs.Level.{freshMask, isFresh, Listed, LevelGiven, LevelFor, freshFails};
 ghost use Rattle.level.specs.Sweep.{FreshGiven, ChildGiven, SweepGiven, Sweeps};
 use node::Sets;
-use node::Square;
 
 // The atoms that lead a newest variable back to itself, those that lead it to a variable that is not chosen, and the numbers of
 // the lines that the children have to test.
@@ -27,60 +23,6 @@ pub struct Level {
     pub leaving: SetNumber,
     pub fresh: [u8; bounds::MAX_LINES],
     pub few: usize,
-}
-
-// The same two masks of atoms by themselves.
-struct Ways {
-    turning: SetNumber,
-    leaving: SetNumber,
-}
-
-// What a variable with the direct dependences `direct` leads to, over the first n variables' rows.
-fn newly_mask(row: &[VariableMask], n: usize, direct: VariableMask) -> VariableMask
-    requires { ⌜ (n ≤ maxVariables) × (length (now row) ≡ maxVariables) ⌝ }
-    ensures { λ r. ⌜ Masks (newBy (now (row .entry)) direct n) r ⌝ }
-{
-    if direct == 0 {
-        return 0;
-    }
-    let mut mask = direct;
-    let mut z = 0;
-    while z < n {
-        if (direct >> z) % 2 == 1 {
-            mask = mask | row[z];
-        }
-        z += 1;
-    }
-    mask
-}
-
-// The mask, with the bit i where `on` says so.
-fn with_bit(mask: SetNumber, i: usize, on: bool) -> SetNumber
-    requires { ⌜ i < setBits ⌝ }
-    ensures { λ r. ⌜ ((q : ℕ → Bool) → Masks q mask → Masks (λ z. q z || (on && eqb i z)) r) ⌝ }
-{
-    if on {
-        return mask | (1 << i);
-    }
-    mask
-}
-
-// The atoms that lead a variable y with them back to y, and those that lead it to a variable after y.
-fn ways_of(fill: &[VariableMask], c: usize, e: usize, square: Square, y: usize) -> Ways
-    requires { ⌜ (c + e ≤ maxAtoms) × (e ≤ length (now fill)) × (y < maxVariables) ⌝ }
-    ensures { λ r. ⌜ WaysTo (Back y) (now (fill .entry)) (square .row) c y e (r .turning) × WaysTo (Out y) (now (fill .entry)) (square .row) c y e (r .leaving) ⌝ }
-{
-    let row = square.row;
-    let mut turning = 0;
-    let mut leaving = 0;
-    let mut k = 0;
-    while k < e {
-        let leads = newly_mask(&row, y, fill[k]);
-        turning = with_bit(turning, c + k, (leads >> y) % 2 == 1);
-        leaving = with_bit(leaving, c + k, (leads >> (y + 1)) != 0);
-        k += 1;
-    }
-    Ways { turning, leaving }
 }
 
 // Has the line with the variables `own` one of `about`, and none that is not of `near`?
@@ -99,10 +41,11 @@ fn collect(
     m: usize,
     about: VariableMask,
     near: VariableMask,
-    ways: Ways,
+    turning: SetNumber,
+    leaving: SetNumber,
 ) -> Level
     requires { ⌜ (m ≤ maxLines) × (length (now mask) ≡ maxLines) ⌝ }
-    ensures { λ r. ⌜ (r .turning ≡ ways .turning) × (r .leaving ≡ ways .leaving) × Listed (isFresh (now (mask .entry)) about near) m (r .fresh) (r .few) ⌝ }
+    ensures { λ r. ⌜ (r .turning ≡ turning) × (r .leaving ≡ leaving) × Listed (isFresh (now (mask .entry)) about near) m (r .fresh) (r .few) ⌝ }
 {
     let mut fresh: [u8; bounds::MAX_LINES] = [0; bounds::MAX_LINES];
     let mut few = 0;
@@ -114,8 +57,6 @@ fn collect(
         }
         n += 1;
     }
-    let turning = ways.turning;
-    let leaving = ways.leaving;
     Level {
         turning,
         leaving,
@@ -124,21 +65,21 @@ fn collect(
     }
 }
 
-// The level of a node: that of its parent's children.
+// The level of a node: that of its parent's children. One row of marks has the variables that lead to the newest one, another those that
+// lead to one after it, which is not chosen; the atoms whose filler is so marked are the two masks of the level.
 pub fn level_of(fill: &[VariableMask], mask: &[VariableMask], counts: Counts, sets: Sets) -> Level
     requires { ⌜ LevelGiven (now fill) (now mask) counts sets ⌝ }
     ensures { λ r. ⌜ LevelFor (now (fill .entry)) (now (mask .entry)) counts sets r ⌝ }
 {
     let c = counts.c;
     let e = counts.e;
-    let mut set = sets.set;
+    let set = sets.set;
     let y = sets.chosen - 1;
-    set[y] = 0;
-    let square = node::square_of(fill, c, e, Sets { set, chosen: y });
-    let about = node::leads_mask(square, y, y) | (1 << y);
-    let near = node::settled_mask(square, y + 1);
-    let ways = ways_of(fill, c, e, square, y);
-    collect(mask, counts.m, about, near, ways)
+    let back = node::leading_to(fill, c, e, &set, y, 1 << y);
+    let later = node::others(node::first_mask(y + 1));
+    let out = node::leading_to(fill, c, e, &set, y, later);
+    let near = node::others(out.marked);
+    collect(mask, counts.m, back.marked, near, back.atoms, out.atoms)
 }
 
 // One of the level's lines fails at the node.

@@ -6,7 +6,7 @@
 --   line-open     == a line that has not only variables of the mask k does not fail so
 --   line-tested   == one that has fails so exactly if it does not hold
 --   node-layout, node-few, node-counts == the table of a node, and how many variables, atoms and lines there are
---   node-fills, node-depends == what the square of variables is made from
+--   node-fills, node-depends == what dependences are read from
 --   node-begins, node-line == where a line begins, and what the test of a line is given
 --   first-found, first-none == the first line that fails, and where none does
 --   dead-cycle, dead-first == a cyclic node is dead, an acyclic one exactly if there is a first line that fails
@@ -17,12 +17,12 @@ use Prim.Native.Nat.{ℕ, zero, suc, _+_, _≤_, _<_}
 use native.Mathlib.Omega.{arith}
 use native.Mathlib.Nat.{not-suc-le-zero}
 use lib.Dec.{T, ltb, ltb→lt, lt→ltb}
-use lib.ListN.{length, getD}
+use lib.ListN.{length, getD, take}
 use lib.Bits.{bitAnd}
 use borrow.Author.Tests.{eq-eqb, ne-eqb, lt-ltb}
 use Rattle.el.specs.Test.{anyBelow, anyOf}
 use Rattle.el.specs.TestLaws.{is-true, same-test, anyOf-places, everyOf-all}
-use Rattle.el.specs.Table.{constant, Line, Table, roleOrder}
+use Rattle.el.specs.Table.{constant, Line, Table, declared, roleOrder}
 use Rattle.el.specs.Meaning.{holds}
 use Rattle.el.specs.Assignment.{Assignment, setOf, acyclic, induced}
 use Rattle.el.specs.ReachLaws.{acyclic-same}
@@ -37,11 +37,9 @@ use Rattle.order.specs.Given.{LineGiven}
 use Rattle.node.specs.declared.Sets.{Sets}
 use Rattle.node.specs.declared.Counts.{Counts}
 use Rattle.node.specs.declared.Prepared.{Prepared}
-use Rattle.node.specs.Mask.{Picks, FillMasks, Fills}
+use Rattle.node.specs.Mask.{Masks, FillMasks, Fills}
 use Rattle.node.specs.MaskLaws.{ready-by, next-below}
-use Rattle.node.specs.SetsLaws.{same-sets, length-node}
-use Rattle.node.specs.Square.{Squares, staysBelow}
-use Rattle.node.specs.ReadyLaws.{settled-says}
+use Rattle.node.specs.SetsLaws.{same-sets}
 use Rattle.node.specs.Node.{nodeOf, Prepares, NodeGiven, firstAt, firstFailing, failsBy, NoneFails, DependsGiven}
 
 pub any-below : (p : Line → Bool) (l : List Line) → anyOf p l ≡ anyBelow (length l) (λ i. p (lineAt l i))
@@ -143,12 +141,11 @@ module _ {s : List ℕ} {counts : Counts} {sets : Sets} (given : NodeGiven s cou
       ∙ sym (dead-lines (roleOrder t) t (nodeOf sets) (is-true (acyclic t (nodeOf sets)) is-acyclic) ∙ first-any (fails (roleOrder t) t (nodeOf sets)) (t .lines))
 
   module _ {p : Prepared} (ready-made : Prepares s p) where
-    pub node-depends : DependsGiven (p .fill) (counts .c) (counts .e) sets
-    node-depends = record {
+    pub node-depends : (n : ℕ) → n ≤ counts .v → DependsGiven (p .fill) (counts .c) (counts .e) n
+    node-depends n h = record {
       few-atoms = node-counts .0;
       room = let a : counts .c + counts .e ≤ maxAtoms = node-counts .0 in let r : length (p .fill) ≡ maxAtoms = ready-made .fill-room in omega arith;
-      few-chosen = node-few .0;
-      clean = given .clean;
+      few-variables = let f : headerOf s .v ≤ maxVariables = node-layout .few-variables in let q : counts .v ≡ headerOf s .v = given .counts-of .variables in omega arith;
     }
 
     pub node-begins : (n : ℕ) → n < counts .m → (n < headerOf s .m) × (getD (p .start) n 0 ≡ lineStart s n)
@@ -167,14 +164,14 @@ module _ {s : List ℕ} {counts : Counts} {sets : Sets} (given : NodeGiven s cou
         line = record { number = n; few = in-table n h; begins = node-begins n h .1 };
       }
 
-      module _ (square : List ℕ) (k : ℕ) (squares : Squares (p .fill) (counts .c) (counts .e) sets square) (settles : Picks (staysBelow square (sets .chosen)) (sets .chosen) k) where
+      module _ (k : ℕ) (settles : (u : Table) → T (declared u) → u .variables ≤ maxVariables → Fills u (counts .c) (counts .e) (p .fill) → Masks (settled u (take (sets .chosen) (sets .set))) k) where
         by-masks : (n : ℕ) → n < counts .m → failsBy t (sets .set) (p .mask) k n ≡ fails (roleOrder t) t (nodeOf sets) (lineAt (t .lines) n)
-        unfolding Squares ready fails failsBy
+        unfolding nodeOf ready fails failsBy
         by-masks n h =
+            let f : headerOf s .v ≤ maxVariables = node-layout .few-variables in let r : t .variables ≡ headerOf s .v = node-layout .variables in
             ap₂ _&&_
             (ready-by (settled t (nodeOf sets)) (lineVariables (t .rows) (lineAt (t .lines) n)) (getD (p .mask) n 0) k (ready-made .masks .at n (in-table n h))
-            (settled-says t (nodeOf sets) square (squares t (node-fills (ready-made .fills)) (node-few .1)) (sets .chosen) k
-            (sym (length-node sets (let h : sets .chosen ≤ maxVariables = node-few .0 in omega arith))) (node-layout .all-declared) settles))
+            (settles t (node-layout .all-declared) (omega arith) (node-fills (ready-made .fills))))
             (ap not (sym (same-holds t (nodeOf sets) (sets .set) (same-sets sets (given .clean)) (lineAt (t .lines) n))))
 
         first-by : (n : ℕ) → n ≤ counts .m → NoneFails t (sets .set) (p .mask) k n → (n < counts .m → failsBy t (sets .set) (p .mask) k n ≡ true) → n ≡ firstFailing t (nodeOf sets)

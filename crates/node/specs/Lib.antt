@@ -1,11 +1,12 @@
 pub mod Node
 pub mod Mask
-pub mod Square
+pub mod Marks
 pub mod MaskLaws
 pub mod CodeLaws
 pub mod LineLaws
 pub mod SetsLaws
 pub mod DependLaws
-pub mod SquareLaws
+pub mod MarkLaws
+pub mod StandLaws
 pub mod ReadyLaws
 pub mod DeadLaws

@@ -1,9 +1,11 @@
 -- Laws of masks, and of what is so of each of the first places of a list.
 --
 --   no-bits, has-bit, same-bits == a number with no bits is 0, any other has one, and numbers with the same bits are equal
---   none-high, some-high == what a shift by k leaves: nothing where a number has no bit from k on, else there is one
+--   meet-found, meet-hit == two numbers have a bit in common exactly if they have one by `&`
 --   eqb-comm        == equal, either way round
 --   masks-none, mask-one, masks-or == the mask 0, the mask of one number, and a mask joined to another
+--   mask-first, mask-some == the mask of the numbers below k, and that the shift before it has something to take 1 from
+--   mask-others     == the mask of those that are not in a mask
 --   bit-added, bit-kept == a bit that is set where a test says so
 --   pick-start, pick-more, pick-skip, pick-whole == the numbers below a bound that pass a test, one by one
 --   ready-by        == every number of a list is in a mask
@@ -15,21 +17,22 @@ use mathlib.Core.Path.{_≡_, refl, sym, ap, ap₂, subst, _∙_}
 use mathlib.Core.Bool.{Bool, true, false, _&&_, _||_, not, and-true, and-false, or-false}
 use mathlib.Core.Logic.{_⊎_, inl, inr}
 use mathlib.Core.List.{List, [], _∷_}
-use Prim.Native.Nat.{ℕ, zero, suc, _+_, _*_, _/_, _%_, _^_, _≤_, _<_}
+use Prim.Native.Nat.{ℕ, zero, suc, _+_, _-_, _*_, _/_, _%_, _^_, _≤_, _<_}
 use native.Mathlib.Omega.{arith}
-use native.Mathlib.Nat.{not-suc-le-zero, one-mul}
+use native.Mathlib.Nat.{not-suc-le-zero}
 use native.Mathlib.Decide.{ℕ-discrete, decLt}
 use borrow.Author.Tests.{eq-eqb, ne-eqb, lt-ltb, le-ltb, eqb-false}
 use lib.Dec.{T, T-not, not-T, eqb, ltb, eqb→eq, eqb-refl}
 use lib.Arith.{bin-ind}
-use lib.Pow.{shl-exact}
-use lib.Bits.{bitOr, bitAnd}
+use lib.Pow.{pow-pos}
+use lib.Bits.{bitOr, bitAnd, bitXor}
 use lib.ListN.{length, getD, set, replicate}
 use lib.Seq.{getD-set-same, getD-set-other}
 use Rattle.el.specs.Test.{anyOf, everyOf, bit}
 use Rattle.el.specs.TestLaws.{is-true, true-is, false-not, same-test, or-left, or-right, or-cases, and-make, and-left, and-right, anyOf-hit, anyOf-found, bit-none, bit-first, bit-next}
 use Rattle.bounds.specs.Bounds.{maskBits, masks}
-use Rattle.el.specs.BitLaws.{bit-power, bit-more, bit-or, bit-and}
+use Rattle.bounds.specs.WidthLaws.{power-in}
+use Rattle.el.specs.BitLaws.{bit-power, bit-first-ones, bit-or, bit-and, bit-missing}
 use Rattle.node.specs.Mask.{Masks, Picks, isAmong, Each}
 
 ----------------------------------------------------------------------------------------------------
@@ -66,7 +69,7 @@ digit-same zero (suc (suc b)) h k e = absurd (let z : ⊥ = omega arith in z)
 digit-same (suc zero) (suc (suc b)) h k e = absurd (let z : ⊥ = omega arith in z)
 digit-same (suc (suc a)) b h k e = absurd (let z : ⊥ = omega arith in z)
 
-same-bits : (a b : ℕ) → ((y : ℕ) → bit y a ≡ bit y b) → a ≡ b
+pub same-bits : (a b : ℕ) → ((y : ℕ) → bit y a ≡ bit y b) → a ≡ b
 same-bits =
     bin-ind (λ (a : ℕ). (b : ℕ) → ((y : ℕ) → bit y a ≡ bit y b) → a ≡ b) (λ b f. sym (no-bits b (λ y. sym (f y) ∙ bit-none y)))
     (λ a ih b f.
@@ -74,11 +77,15 @@ same-bits =
     let l : a % 2 ≡ b % 2 = digit-same (a % 2) (b % 2) (omega arith) (omega arith) (sym (bit-first a) ∙ f 0 ∙ bit-first b) in
     omega arith)
 
-pub none-high : (m k : ℕ) → ((y : ℕ) → k ≤ y → bit y m ≡ false) → m / 2 ^ k ≡ 0
-none-high m k f = no-bits (m / 2 ^ k) (λ y. bit-more k y m ∙ f (k + y) (omega arith))
+pub meet-found : (a b : ℕ) → (bitAnd a b ≡ 0 → ⊥) → (i : ℕ) × T (bit i a) × T (bit i b)
+meet-found a b f =
+    let h = has-bit (bitAnd a b) f in let i = h .0 in
+    let g : T (bit i a && bit i b) = true-is (bit i a && bit i b) (sym (bit-and i a b) ∙ h .1) in
+    (i, and-left (bit i a) (bit i b) g, and-right (bit i a) (bit i b) g)
 
-pub some-high : (n k : ℕ) → (n / 2 ^ k ≡ 0 → ⊥) → (w : ℕ) × (k ≤ w) × (bit w n ≡ true)
-some-high n k h = let f = has-bit (n / 2 ^ k) h in (k + f .0, omega arith, sym (bit-more k (f .0) n) ∙ f .1)
+pub meet-hit : (a b i : ℕ) → T (bit i a) → T (bit i b) → bitAnd a b ≡ 0 → ⊥
+meet-hit a b i u w z =
+    false-not (bit i a && bit i b) (sym (bit-and i a b) ∙ ap (bit i) z ∙ bit-none i) (and-make (bit i a) (bit i b) u w)
 
 pub eqb-comm : (a b : ℕ) → eqb a b ≡ eqb b a
 eqb-comm a b =
@@ -92,7 +99,16 @@ masks-none y = bit-none y
 
 -- the machine shifts a 1 in w bits
 pub mask-one : (w k : ℕ) → k < w → Masks (λ y. eqb k y) (1 * 2 ^ k % 2 ^ w)
-mask-one w k h y = ap (bit y) (shl-exact 1 k w (omega arith) (omega arith) ∙ one-mul (2 ^ k)) ∙ bit-power y k ∙ eqb-comm y k
+mask-one w k h y = ap (bit y) (power-in w k h) ∙ bit-power y k ∙ eqb-comm y k
+
+pub mask-some : (w k : ℕ) → k < w → 1 ≤ 1 * 2 ^ k % 2 ^ w
+mask-some w k h = subst (λ (n : ℕ). 1 ≤ n) (sym (power-in w k h)) (pow-pos k)
+
+pub mask-first : (w k : ℕ) → k < w → Masks (λ y. ltb y k) (1 * 2 ^ k % 2 ^ w - 1)
+mask-first w k h y = ap (λ (n : ℕ). bit y (n - 1)) (power-in w k h) ∙ bit-first-ones k y
+
+pub mask-others : (p : ℕ → Bool) (all m : ℕ) → Masks p all → Masks (λ y. p y && not (bit y m)) (bitXor all (bitAnd all m))
+mask-others p all m is y = bit-missing y m all ∙ ap (λ (b : Bool). b && not (bit y m)) (is y)
 
 pub masks-or : (p q : ℕ → Bool) (a b : ℕ) → Masks p a → Masks q b → Masks (λ y. p y || q y) (bitOr a b)
 masks-or p q a b f g y = bit-or y a b ∙ ap₂ _||_ (f y) (g y)

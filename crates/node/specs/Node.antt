@@ -6,7 +6,7 @@
 --   preparedOf over inner fill mask start == what is prepared, from its parts
 --   Prepares s p      == p is what is prepared of the bytes s, each list with room for the longest table
 --   NodeGiven s counts sets == s is a readable table with these counts, and the sets are a node of it
---   DependsGiven fill c e sets == what dependences are read from: masks for e restrictions, c + e not too many, and the sets of a node
+--   DependsGiven fill c e n == what dependences are read from: masks for e restrictions, c + e not too many, and n variables
 --   firstAt p l       == the number of the first line of l that passes p; how many there are where none does
 --   firstFailing t s  == so of the lines of t, for those that are ready and fail at the node s
 --   failsBy t set mask k n == line n, whose variables are those of `mask`, has only variables of the mask k, and does not hold under the sets
@@ -62,11 +62,10 @@ pub record NodeGiven (s : List ℕ) (counts : Counts) (sets : Sets) : Type 0 whe
   pub chosen : sets .chosen ≤ counts .v
   pub clean : Clean sets
 
-pub record DependsGiven (fill : List ℕ) (c e : ℕ) (sets : Sets) : Type 0 where
+pub record DependsGiven (fill : List ℕ) (c e n : ℕ) : Type 0 where
   pub few-atoms : c + e ≤ maxAtoms
   pub room : e ≤ length fill
-  pub few-chosen : sets .chosen ≤ maxVariables
-  pub clean : Clean sets
+  pub few-variables : n ≤ maxVariables
 
 unfoldable pub firstAt : (Line → Bool) → List Line → ℕ
 firstAt p [] = 0

@@ -1,29 +1,31 @@
 // A node of the walk, and whether it is dead.
 //
 // Given are a readable table, its counts, what is prepared of it once, and the sets of the variables chosen so far. Variables are bits of
-// a mask. From the sets comes which variable depends on which directly; closed over inner variables one at a time, that is the square: row
-// x has a bit for each variable that x leads to. A variable that leads to itself makes the node cyclic, and so dead. Else a variable is
-// settled if it and all it leads to are chosen; a line is ready if all its variables are settled; and the node is dead if a ready line
-// fails.
+// a mask: one row of marks. The atoms whose filler is marked tell which variables depend on a marked one: those whose sets have such an
+// atom. Marking these too, again and again, marks all that lead to the marks at first. Striking out, again and again, what depends on
+// nothing still standing leaves something exactly if the node is cyclic, and so dead. Else a variable is settled if it and all it leads to
+// are chosen; a line is ready if all its variables are settled; and the node is dead if a ready line fails.
 use bounds::RowMask;
 use bounds::SetNumber;
 use bounds::VariableMask;
 use table::Kind;
 ghost use mathlib.Core.Path.{_≡_};
+ghost use mathlib.Core.Bool.{_&&_, not};
 ghost use mathlib.Core.Option.{some};
 ghost use Prim.Native.Nat.{ℕ, _+_, _≤_, _<_};
-ghost use lib.Dec.{T};
-ghost use lib.ListN.{length};
-ghost use Rattle.el.specs.Table.{Entry, Row, Table, roleOrder};
+ghost use lib.Dec.{T, ltb};
+ghost use lib.ListN.{length, take};
+ghost use Rattle.el.specs.Test.{bit};
+ghost use Rattle.el.specs.Table.{Entry, Row, Table, declared, roleOrder};
 ghost use Rattle.el.specs.Assignment.{acyclic};
-ghost use Rattle.el.specs.Walk.{entryVariables, dead};
+ghost use Rattle.el.specs.Walk.{entryVariables, settled, dead};
 ghost use Rattle.bounds.specs.Bounds.{maxAtoms, maxVariables};
 ghost use Rattle.table.specs.Code.{kindOf, entryOf};
 ghost use Rattle.table.specs.Reading.{reading, isReadable, tableOf, headerOf};
 ghost use Rattle.table.specs.Layout.{LineBegins, AtLine};
 ghost use mathlib.Core.List.{List};
 ghost use Rattle.node.specs.Mask.{Masks, Picks, isAmong, isNamed, Names, MaskFits, FillMasks, Fills, LineMask, LineMasks, LineStarts};
-ghost use Rattle.node.specs.Square.{dependsBy, dependsFrom, Direct, Closes, Squares, staysBelow, leadsTo};
+ghost use Rattle.node.specs.Marks.{dependsIn, AtomsInto, hasOne, LeadsInto};
 ghost use Rattle.node.specs.Node.{nodeOf, CountsOf, Prepares, NodeGiven, firstFailing, DependsGiven};
 
 // The counts of a table that the test of a node needs: constants, restrictions, variables and lines.
@@ -40,9 +42,10 @@ pub struct Sets {
     pub chosen: usize,
 }
 
-// The square of variables: bit y of row x says that x leads to y.
-pub struct Square {
-    pub row: [VariableMask; bounds::MAX_VARIABLES],
+// A row of marks on the variables, and the atoms whose filler is marked.
+pub struct Marks {
+    pub marked: VariableMask,
+    pub atoms: SetNumber,
 }
 
 // The mask of the variables of each line, and the byte where it begins.
@@ -102,130 +105,117 @@ fn fill_masks(table: &[u8], e: usize) -> [VariableMask; bounds::MAX_ATOMS]
     fill
 }
 
-// The mask of the variables on which a variable with the set number `set` depends directly.
-fn depends_row(fill: &[VariableMask], c: usize, e: usize, set: SetNumber) -> VariableMask
-    requires { ⌜ (c + e ≤ maxAtoms) × (e ≤ length (now fill)) ⌝ }
-    ensures { λ r. ⌜ Masks (dependsBy (now (fill .entry)) c set e) r ⌝ }
+// The mask of the first k variables.
+pub fn first_mask(k: usize) -> VariableMask
+    requires { ⌜ k ≤ maxVariables ⌝ }
+    ensures { λ r. ⌜ Masks (λ x. ltb x k) r ⌝ }
 {
-    let mut mask = 0;
+    (1 << k) - 1
+}
+
+// The mask of the variables that are not in the mask.
+pub fn others(mask: VariableMask) -> VariableMask
+    ensures { λ r. ⌜ Masks (λ x. ltb x maxVariables && not (bit x mask)) r ⌝ }
+{
+    let all = first_mask(bounds::MAX_VARIABLES);
+    all ^ (all & mask)
+}
+
+// The atoms whose filler is a variable of the mask.
+fn atoms_of(fill: &[VariableMask], c: usize, e: usize, mask: VariableMask) -> SetNumber
+    requires { ⌜ (c + e ≤ maxAtoms) × (e ≤ length (now fill)) ⌝ }
+    ensures { λ r. ⌜ AtomsInto (now (fill .entry)) c e mask r ⌝ }
+{
+    let mut atoms = 0;
     let mut k = 0;
     while k < e {
-        if (set >> (c + k)) % 2 == 1 {
-            mask = mask | fill[k];
+        if (fill[k] & mask) != 0 {
+            atoms = atoms | (1 << (c + k));
         }
         k += 1;
+    }
+    atoms
+}
+
+// The mask of those of the first n variables whose sets have one of the atoms.
+fn having(set: &[SetNumber], n: usize, atoms: SetNumber) -> VariableMask
+    requires { ⌜ (n ≤ maxVariables) × (n ≤ length (now set)) ⌝ }
+    ensures { λ r. ⌜ Picks (hasOne (now (set .entry)) atoms) n r ⌝ }
+{
+    let mut mask = 0;
+    let mut x = 0;
+    while x < n {
+        if (set[x] & atoms) != 0 {
+            mask = mask | (1 << x);
+        }
+        x += 1;
     }
     mask
 }
 
-// The rows of direct dependences: a variable that is not chosen has none.
-fn direct_rows(fill: &[VariableMask], c: usize, e: usize, sets: Sets) -> Square
-    requires { ⌜ DependsGiven (now fill) c e sets ⌝ }
-    ensures { λ r. ⌜ Direct (dependsFrom (now (fill .entry)) c e (sets .set)) (r .row) ⌝ }
+// Marks the variables of the mask, and all that lead to one of them over the first n variables' sets. A round marks those that depend
+// on a marked one; where it marks no more, all are marked, and n rounds are enough.
+pub fn leading_to(
+    fill: &[VariableMask],
+    c: usize,
+    e: usize,
+    set: &[SetNumber],
+    n: usize,
+    mask: VariableMask,
+) -> Marks
+    requires { ⌜ DependsGiven (now fill) c e n × (n ≤ length (now set)) ⌝ }
+    ensures { λ r. ⌜ LeadsInto (dependsIn (now (fill .entry)) c e (now (set .entry)) n) mask (r .marked) × AtomsInto (now (fill .entry)) c e (r .marked) (r .atoms) ⌝ }
+{
+    let mut marked = mask;
+    let mut atoms = atoms_of(fill, c, e, mask);
+    let mut round = 0;
+    while round < n {
+        let more = marked | having(set, n, atoms);
+        if more == marked {
+            return Marks { marked, atoms };
+        }
+        marked = more;
+        atoms = atoms_of(fill, c, e, more);
+        round += 1;
+    }
+    Marks { marked, atoms }
+}
+
+// Does no variable depend on itself over one or more steps? All v variables stand at first. A round strikes out each that depends on
+// nothing still standing; a variable that is not chosen depends on nothing. The node is acyclic exactly if nothing stands at the end.
+pub fn is_acyclic(fill: &[VariableMask], c: usize, e: usize, v: usize, sets: Sets) -> bool
+    requires { ⌜ DependsGiven (now fill) c e v × (sets .chosen ≤ v) ⌝ }
+    ensures { λ r. ⌜ ((t : Table) → Fills t c e (now (fill .entry)) → sets .chosen ≤ t .variables → r ≡ acyclic t (nodeOf sets)) ⌝ }
 {
     let set = sets.set;
     let n = sets.chosen;
-    let mut row: [VariableMask; bounds::MAX_VARIABLES] = [0; bounds::MAX_VARIABLES];
-    let mut x = 0;
-    while x < n {
-        row[x] = depends_row(fill, c, e, set[x]);
-        x += 1;
-    }
-    Square { row }
-}
-
-// One more inner variable, j: where x leads to j, it leads to what j leads to. Where j leads nowhere, nothing changes.
-fn close_step(square: Square, n: usize, j: usize) -> Square
-    requires { ⌜ (n ≤ maxVariables) × (j < n) ⌝ }
-    ensures { λ r. ⌜ Closes (square .row) j (j + 1) n (r .row) ⌝ }
-{
-    let mut row = square.row;
-    if row[j] == 0 {
-        return square;
-    }
-    let mut x = 0;
-    while x < n {
-        let own = row[x];
-        if (own >> j) % 2 == 1 {
-            row[x] = own | row[j];
+    let mut standing = first_mask(v);
+    let mut round = 0;
+    while round < v {
+        let left = standing & having(&set, n, atoms_of(fill, c, e, standing));
+        if left == standing {
+            return standing == 0;
         }
-        x += 1;
-    }
-    Square { row }
-}
-
-// Every variable below n as an inner one.
-fn close(square: Square, n: usize) -> Square
-    requires { ⌜ n ≤ maxVariables ⌝ }
-    ensures { λ r. ⌜ Closes (square .row) 0 n n (r .row) ⌝ }
-{
-    let mut closed = square;
-    let mut j = 0;
-    while j < n {
-        closed = close_step(closed, n, j);
-        j += 1;
-    }
-    closed
-}
-
-// The square of variables at a node: row x has a bit for each variable that x reaches.
-pub fn square_of(fill: &[VariableMask], c: usize, e: usize, sets: Sets) -> Square
-    requires { ⌜ DependsGiven (now fill) c e sets ⌝ }
-    ensures { λ r. ⌜ Squares (now (fill .entry)) c e sets (r .row) ⌝ }
-{
-    close(direct_rows(fill, c, e, sets), sets.chosen)
-}
-
-// Does no variable depend on itself over one or more steps?
-pub fn is_acyclic(fill: &[VariableMask], c: usize, e: usize, sets: Sets) -> bool
-    requires { ⌜ DependsGiven (now fill) c e sets ⌝ }
-    ensures { λ r. ⌜ ((t : Table) → Fills t c e (now (fill .entry)) → sets .chosen ≤ t .variables → r ≡ acyclic t (nodeOf sets)) ⌝ }
-{
-    let square = square_of(fill, c, e, sets);
-    let row = square.row;
-    let n = sets.chosen;
-    let mut x = 0;
-    while x < n {
-        if (row[x] >> x) % 2 == 1 {
-            return false;
-        }
-        x += 1;
+        standing = left;
+        round += 1;
     }
     true
 }
 
-// The mask of the settled variables: the chosen ones, n in number, that lead to none that is not chosen.
-pub fn settled_mask(square: Square, n: usize) -> VariableMask
-    requires { ⌜ n ≤ maxVariables ⌝ }
-    ensures { λ r. ⌜ Picks (staysBelow (square .row) n) n r ⌝ }
+// The mask of the settled variables at the node of the first n sets: those chosen that lead to none that is not.
+fn settled_mask(
+    fill: &[VariableMask],
+    c: usize,
+    e: usize,
+    set: &[SetNumber],
+    n: usize,
+) -> VariableMask
+    requires { ⌜ DependsGiven (now fill) c e n × (n ≤ length (now set)) ⌝ }
+    ensures { λ r. ⌜ ((t : Table) → T (declared t) → t .variables ≤ maxVariables → Fills t c e (now (fill .entry)) → Masks (settled t (take n (now (set .entry)))) r) ⌝ }
 {
-    let row = square.row;
-    let mut mask = 0;
-    let mut x = 0;
-    while x < n {
-        if (row[x] >> n) == 0 {
-            mask = mask | (1 << x);
-        }
-        x += 1;
-    }
-    mask
-}
-
-// The mask of the variables below n that lead to z.
-pub fn leads_mask(square: Square, n: usize, z: usize) -> VariableMask
-    requires { ⌜ (n ≤ maxVariables) × (z < maxVariables) ⌝ }
-    ensures { λ r. ⌜ Picks (leadsTo (square .row) z) n r ⌝ }
-{
-    let row = square.row;
-    let mut mask = 0;
-    let mut x = 0;
-    while x < n {
-        if (row[x] >> z) % 2 == 1 {
-            mask = mask | (1 << x);
-        }
-        x += 1;
-    }
-    mask
+    let open = others(first_mask(n));
+    let out = leading_to(fill, c, e, set, n, open);
+    others(out.marked)
 }
 
 // The mask of the variables of the entry that a code writes, its filler included.
@@ -313,7 +303,7 @@ pub fn first_failing(table: &[u8], counts: Counts, prepared: Prepared, sets: Set
     let mask = prepared.mask;
     let start = prepared.start;
     let set = sets.set;
-    let settled = settled_mask(square_of(&fill, c, e, sets), sets.chosen);
+    let settled = settled_mask(&fill, c, e, &set, sets.chosen);
     let mut n = 0;
     while n < m {
         let own = mask[n];
@@ -333,7 +323,7 @@ pub fn is_dead(table: &[u8], counts: Counts, prepared: Prepared, sets: Sets) -> 
     ensures { λ r. ⌜ r ≡ dead (roleOrder (tableOf (now (table .entry)))) (tableOf (now (table .entry))) (nodeOf sets) ⌝ }
 {
     let fill = prepared.fill;
-    if !is_acyclic(&fill, counts.c, counts.e, sets) {
+    if !is_acyclic(&fill, counts.c, counts.e, counts.v, sets) {
         return true;
     }
     first_failing(table, counts, prepared, sets) < counts.m

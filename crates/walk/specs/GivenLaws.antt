@@ -46,12 +46,12 @@ module _ {s : List ℕ} {counts : Counts} {last : ℕ} (given : Given s counts l
     -- the level of the node, and what a sweep from it asks
     module _ {p : Prepared} (prepares : Prepares s p) (some : 0 < sets .chosen) where
       pub given-level : LevelGiven (p .fill) (p .mask) counts sets
-      given-level = record { square = node-depends given-node prepares; few-lines = node-counts given-node .1; mask-room = prepares .mask-room; some = some }
+      given-level = record { depends = node-depends given-node prepares (sets .chosen) (given-node .chosen); few-lines = node-counts given-node .1; mask-room = prepares .mask-room; some = some }
 
       pub level-is : (level : Level) → LevelFor (p .fill) (p .mask) counts sets level → Levels (tableOf s) (take (sets .chosen - 1) (sets .set)) (counts .m) level
       level-is level levels =
-          let q : counts .m ≡ headerOf s .m = given .counts-of .lines in
-          levels (tableOf s) (node-layout given-node .all-declared) (node-fills given-node (prepares .fills)) (each-whole (prepares .masks) (omega arith) (omega arith)) (range .few)
+          let q : counts .m ≡ headerOf s .m = given .counts-of .lines in let v = given-variables in
+          levels (tableOf s) (node-layout given-node .all-declared) (omega arith) (node-fills given-node (prepares .fills)) (each-whole (prepares .masks) (omega arith) (omega arith)) (range .few)
 
       pub given-sweep : (level : Level) → LiveAbove (tableOf s) sets → Levels (tableOf s) (take (sets .chosen - 1) (sets .set)) (counts .m) level
           → SweepGiven s (p .over) (p .inner) (p .start) level counts sets last

@@ -10,10 +10,10 @@ use Rattle.level.proofs.collect.Statement.{statement}
 use Rattle.level.proofs.collect.Tie as tie
 
 abbrev Inv-loop : tie.InvT-loop
-Inv-loop mask m about near square fresh₀ few₀ n₀ fresh few n = (n ≤ m) × Listed (isFresh mask about near) n fresh few
+Inv-loop mask m about near turning leaving fresh₀ few₀ n₀ fresh few n = (n ≤ m) × Listed (isFresh mask about near) n fresh few
 
 abbrev μ-loop : tie.MeasureT-loop
-μ-loop mask m about near square fresh₀ few₀ n₀ fresh few n = m - n
+μ-loop mask m about near turning leaving fresh₀ few₀ n₀ fresh few n = m - n
 
 loop-again : tie.Need-loop-again Inv-loop μ-loop
 unfolding isFresh

@@ -1,5 +1,6 @@
 -- `node::is_dead` meets its contract: the cycle test, and else the first line that fails.
 use mathlib.Core.Path.{sym, _∙_}
+use native.Mathlib.Omega.{arith}
 use borrow.Author.Needs.{needs}
 use borrow.Author.Tests.{not-true, not-false}
 use Rattle.el.specs.TestLaws.{true-is}
@@ -8,7 +9,7 @@ use Rattle.node.proofs.is_dead.Statement.{statement}
 use Rattle.node.proofs.is_dead.Tie as tie
 
 is-acyclic-requires : tie.Need-is-acyclic-requires
-is-acyclic-requires c κs = node-depends (c .before .before .before .pre .0) (c .before .before .before .pre .1)
+is-acyclic-requires c κs = let p = c .before .before .before .pre in (node-depends (p .0) (p .1) _ (omega arith), p .0 .chosen)
 
 returns : tie.Need-returns
 returns c = let p = c .before .before .before .before .before .pre in dead-cycle (p .0) (sym (not-true _ (c .if1 .taken)) ∙ c .before .is-acyclic .ensures _ (node-fills (p .0) (p .1 .fills)) (node-few (p .0) .1))

@@ -1,38 +1,18 @@
--- `node::settled_mask` meets its contract. The invariant: the mask has the settled variables below x; the measure is what is left of n.
-use mathlib.Core.Path.{_≡_, sym, subst}
-use mathlib.Core.Logic.{⊎-elim}
-use Prim.Native.Nat.{_-_, _≤_}
-use native.Mathlib.Omega.{arith}
+-- `node::settled_mask` meets its contract: what leads to a variable that is not chosen is not settled, all others are.
 use borrow.Author.Needs.{needs}
-use borrow.Author.Tests.{eq-eqb, ne-eqb}
-use lib.ListN.{length}
-use Rattle.bounds.specs.Bounds.{maxVariables}
-use Rattle.node.specs.Mask.{Picks}
-use Rattle.node.specs.MaskLaws.{pick-start, pick-more, pick-skip, pick-whole}
-use Rattle.node.specs.Square.{staysBelow}
+use Rattle.node.specs.ReadyLaws.{all-settled}
 use Rattle.node.proofs.settled_mask.Statement.{statement}
 use Rattle.node.proofs.settled_mask.Tie as tie
 
-abbrev Inv-loop : tie.InvT-loop
-Inv-loop n row mask₀ x₀ mask x = (x ≤ n) × (length row ≡ maxVariables) × Picks (staysBelow row n) x mask
+first-mask-requires : tie.Need-first-mask-requires
+first-mask-requires c κs = c .before .before .pre .0 .few-variables
 
-abbrev μ-loop : tie.MeasureT-loop
-μ-loop n row mask₀ x₀ mask x = n - x
+leading-to-requires : tie.Need-leading-to-requires
+leading-to-requires c κs = c .before .before .before .before .pre
 
-loop-again : tie.Need-loop-again Inv-loop μ-loop
-unfolding staysBelow
-loop-again c = (
-  omega arith,
-  search needs,
-  ⊎-elim
-      (λ w. subst (Picks _ _) (sym (w .1)) (pick-more (c .before .before .loop .inv .2) (omega arith) (eq-eqb _ _ (w .0 .taken))))
-      (λ w. subst (Picks _ _) (sym (w .1)) (pick-skip (c .before .before .loop .inv .2) (ne-eqb _ _ (w .0 .left))))
-      (c .if1 .came),
-)
+returns : tie.Need-returns
+returns c =
+    λ t known small fills. all-settled t known small _ _ _ fills _ _ _ _ _ _ (c .before .before .before .before .before .before .pre .0 .few-variables) (c .before .before .before .before .before .before .pre .1) (c .before .before .before .first-mask .ensures) (c .before .before .others .ensures) (c .before .leading-to .ensures .0) (c .others2 .ensures)
 
 pub settled-mask-spec : {M : Type 1} → statement M
-settled-mask-spec =
-    tie.close
-    (tie.spec Inv-loop μ-loop (λ c. (omega arith, search needs, pick-start)) (λ c. search needs) (λ c. search needs) (λ c. search needs)
-    (λ c. search needs) (λ c. search needs) (λ c. search needs) (λ c. search needs) (λ c. search needs) loop-again
-    (λ c. pick-whole (c .before .loop .inv .2) (c .before .loop .inv .0) (c .loop-test .left)))
+settled-mask-spec = tie.close (tie.spec first-mask-requires (λ c κs. search needs) leading-to-requires (λ c κs. search needs) returns)

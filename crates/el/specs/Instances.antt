@@ -1,17 +1,18 @@
 -- The theorems at concrete tables: their hypotheses are met, and the outcomes are computed from the definitions.
 --
 --   p5-cyclic                                   == X = {some r X} is cyclic, so it does not solve P5
+--   entered-circle                              == of three, where 0 depends on 1, 1 on 2 and 2 on 1, one leads to itself
 --   p5-none, p12-none, p12-not-unifiable        == no assignment solves P5, none solves P12, and no substitution makes P12's lines true
 --   p6-solved                                   == X = {A} solves P6
 --   p6-local, p6-local-solves                   == the local assignment of `deep` is X = {A}, and locality says that it solves
 --   p6-more, more-most                          == the tables grow
 --   growth-keeps, growth-back-keeps, ..-solving == growth applied
 use mathlib.Core.Path.{_≡_, refl}
-use mathlib.Core.Bool.{true, false, not}
+use mathlib.Core.Bool.{Bool, true, false, _&&_, _||_, not}
 use mathlib.Core.List.{[], _∷_}
-use Prim.Native.Nat.{ℕ, suc, _^_}
+use Prim.Native.Nat.{ℕ, suc, _^_, _<_}
 use native.Mathlib.Omega.{arith}
-use lib.Dec.{T, ltb, ltb→lt, T-not}
+use lib.Dec.{T, eqb, ltb, ltb→lt, T-not}
 use lib.ListN.{length}
 use Rattle.el.specs.Test.{anyBelow, allBelow, everyOf, bit}
 use Rattle.el.specs.TestLaws.{and-left, false-not, allBelow-at}
@@ -19,8 +20,9 @@ use Rattle.el.specs.Description.{sameRole}
 use Rattle.el.specs.OrderLaws.{sameRole-refl, sameRole-trans}
 use Rattle.el.specs.Table.{Table, rowAt, atoms, declared}
 use Rattle.el.specs.Meaning.{holds, makes}
-use Rattle.el.specs.Assignment.{Assignment, setOf, IsAssignment, depends, path, reaches, Acyclic, acyclic, atomUnder, conjoin, setUnder, inducedTo, induced, Solves, solves}
+use Rattle.el.specs.Assignment.{Assignment, setOf, IsAssignment, depends, path, Reaches, reaches, Acyclic, acyclic, atomUnder, conjoin, setUnder, inducedTo, induced, Solves, solves}
 use Rattle.el.specs.ReachLaws.{acyclic-means}
+use Rattle.el.specs.CircleLaws.{Stand, circle-some}
 use Rattle.el.specs.Locality.{number, listTo, localSet, localAssignment, IsLocal, Unifiable, Solvable}
 use Rattle.el.specs.LocalityLaws.{locality, local-iff, solves-means}
 use Rattle.el.specs.Growth.{Grows}
@@ -56,6 +58,21 @@ p5-test = refl
 
 pub p5-cyclic : Acyclic p5 (1 ∷ []) → ⊥
 p5-cyclic f = false-not (acyclic p5 (1 ∷ [])) p5-test (acyclic-means p5 p5-declared (1 ∷ []) .1 f)
+
+----------------------------------------------------------------------------------------------------
+-- The finite fact behind the cycle test, at a circle of two that is entered from outside
+
+entered : ℕ → ℕ → Bool
+entered x y = (eqb x 0 && eqb y 1) || ((eqb x 1 && eqb y 2) || (eqb x 2 && eqb y 1))
+
+entered-stands : Stand entered (λ x. ltb x 3)
+entered-stands 0 u = (1, tt, tt)
+entered-stands 1 u = (2, tt, tt)
+entered-stands 2 u = (1, tt, tt)
+entered-stands (suc (suc (suc x))) u = absurd (let h : suc (suc (suc x)) < 3 = ltb→lt (suc (suc (suc x))) 3 u in let z : ⊥ = omega arith in z)
+
+pub entered-circle : (z : ℕ) × T (ltb z 3) × Reaches entered z z
+entered-circle = circle-some 3 entered (λ x. ltb x 3) (λ x u. ltb→lt x 3 u) entered-stands 0 tt
 
 ----------------------------------------------------------------------------------------------------
 -- Where no assignment solves: the sets of the one variable are tried in turn

@@ -9,7 +9,7 @@
 --   anyBelow-true-at, anyBelow-false-at     == the value of the test from one number, and of each number from the test
 --   anyBelow-step, anyBelow-none            == no number passes: by one more, by all
 --   anyBelow-same                           == tests that agree below n
---   allBelow-..                             == the same for every number below n
+--   allBelow-all, allBelow-at, allBelow-every, allBelow-same == the same for every number below n
 --   anyOf-.., everyOf-..                    == the same over a list, by places; `-append` over two lists; `anyOf-places` asks each place, `everyOf-both` follows from two tests
 --   bit-none, bit-first, bit-next           == bits of 0, bit 0, and the bits after it
 use mathlib.Core.Path.{_≡_, refl, sym, ap, ap₂, subst, _∙_}
@@ -131,21 +131,8 @@ allBelow-at (suc n) i p t h = go (ℕ-discrete i n) (λ l. allBelow-at n i p (an
     go (yes e) rest = subst (λ (k : ℕ). T (p k)) (sym e) (and-right (allBelow n p) (p n) t)
     go (no e) rest = rest (omega arith)
 
-pub allBelow-next : (n : ℕ) (p : ℕ → Bool) → allBelow (n + 1) p ≡ allBelow n p && p n
-unfolding allBelow
-allBelow-next n p = rw (add-one) refl
-
-pub allBelow-false-at : (n i : ℕ) (p : ℕ → Bool) → i < n → p i ≡ false → allBelow n p ≡ false
-allBelow-false-at n i p h e = is-false (allBelow n p) (λ t. false-not (p i) e (allBelow-at n i p t h))
-
-pub allBelow-true-at : (n i : ℕ) (p : ℕ → Bool) → allBelow n p ≡ true → i < n → p i ≡ true
-allBelow-true-at n i p e h = is-true (p i) (allBelow-at n i p (true-is (allBelow n p) e) h)
-
 pub allBelow-every : (n : ℕ) (p : ℕ → Bool) → ((i : ℕ) → i < n → p i ≡ true) → allBelow n p ≡ true
 allBelow-every n p f = is-true (allBelow n p) (allBelow-all n p (λ i h. true-is (p i) (f i h)))
-
-pub allBelow-step : (n : ℕ) (p : ℕ → Bool) → allBelow n p ≡ true → p n ≡ true → allBelow (n + 1) p ≡ true
-allBelow-step n p e f = allBelow-next n p ∙ ap₂ _&&_ e f
 
 pub allBelow-same : (n : ℕ) (p q : ℕ → Bool) → ((i : ℕ) → i < n → p i ≡ q i) → allBelow n p ≡ allBelow n q
 unfolding allBelow

@@ -75,7 +75,8 @@ pub fn level_of(fill: &[VariableMask], mask: &[VariableMask], counts: Counts, se
     let e = counts.e;
     let set = sets.set;
     let y = sets.chosen - 1;
-    let back = node::leading_to(fill, c, e, &set, y, 1 << y);
+    let newest = 1 << y;
+    let back = node::leading_to(fill, c, e, &set, y, newest);
     let later = node::others(node::first_mask(y + 1));
     let out = node::leading_to(fill, c, e, &set, y, later);
     let near = node::others(out.marked);

@@ -8,7 +8,7 @@
 --   leads-full     == as many rounds as variables
 --   leads-same     == relations with the same steps
 --   leads-back     == what leads to a marked one is marked
-use mathlib.Core.Path.{_≡_, refl, sym, ap, ap₂, subst, _∙_}
+use mathlib.Core.Path.{_≡_, refl, sym, ap, subst, _∙_}
 use mathlib.Core.Bool.{Bool, true, false, _&&_, _||_, not}
 use mathlib.Core.Logic.{_⊎_, inl, inr}
 use mathlib.Core.List.{List}
@@ -17,12 +17,12 @@ use native.Mathlib.Omega.{arith}
 use native.Mathlib.Decide.{decLt}
 use borrow.Author.Tests.{eq-eqb, ne-eqb}
 use lib.Bits.{bitAnd, bitOr}
-use lib.Dec.{T, T-not, not-T, eqb, ltb, eqb→eq, ltb→lt, lt→ltb}
+use lib.Dec.{T, T-not, not-T, eqb, ltb, eqb→eq, ltb→lt}
 use lib.ListN.{getD}
 use Rattle.el.specs.Test.{anyBelow, bit}
-use Rattle.el.specs.TestLaws.{is-true, is-false, true-is, false-not, same-test, or-left, or-right, or-cases, and-make, and-left, and-right, anyBelow-next, anyBelow-hit, anyBelow-found, bit-none}
+use Rattle.el.specs.TestLaws.{is-false, true-is, false-not, same-test, or-left, or-right, or-cases, and-make, and-left, and-right, anyBelow-next, anyBelow-hit, anyBelow-found, bit-none}
 use Rattle.el.specs.Assignment.{Reaches, once, then}
-use Rattle.el.specs.BitLaws.{bit-or, bit-and}
+use Rattle.el.specs.BitLaws.{bit-or}
 use Rattle.el.specs.CircleLaws.{reaches-along}
 use Rattle.el.specs.InducedLaws.{countBelow-le, countBelow-lt, countBelow-all}
 use Rattle.el.specs.Rank.{countBelow}

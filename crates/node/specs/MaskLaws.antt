@@ -11,7 +11,7 @@
 --   ready-by        == every number of a list is in a mask
 --   any-by          == one of them is
 --   next-below      == what is so of the numbers below n, and of n
---   each-none, each-next, each-set, each-whole == what is so of each place, place by place
+--   each-none, each-set, each-whole == what is so of each place, place by place
 --   zeros           == a list of zeros
 use mathlib.Core.Path.{_≡_, refl, sym, ap, ap₂, subst, _∙_}
 use mathlib.Core.Bool.{Bool, true, false, _&&_, _||_, not, and-true, and-false, or-false}
@@ -213,9 +213,6 @@ module _ {P : ℕ → ℕ → Type 0} {l : List ℕ} where
   each-none = record { at = λ i h. absurd (not-suc-le-zero h) }
 
   module _ {n : ℕ} (f : Each P n l) where
-    pub each-next : P n (getD l n 0) → Each P (n + 1) l
-    each-next g = record { at = next-below (f .at) g }
-
     pub each-set : {m : ℕ} → n < length l → P n m → Each P (n + 1) (set l n m)
     each-set {m} h g =
         record { at = next-below (λ i k. subst (P i) (sym (getD-set-other l n i m 0 (λ e. omega arith))) (f .at i k)) (subst (P n) (sym (getD-set-same l n m 0 h)) g) }

@@ -7,9 +7,9 @@
 --   struck-out      == as many rounds as variables
 --   acyclic-none, acyclic-not == and so the node is acyclic, or not
 --   stuck, struck   == the cycle test at its two ends
-use mathlib.Core.Path.{_≡_, refl, sym, ap, subst, _∙_}
-use mathlib.Core.Bool.{Bool, true, false, _&&_, _||_, not}
-use mathlib.Core.Logic.{_⊎_, inl, inr}
+use mathlib.Core.Path.{_≡_, sym, ap, subst, _∙_}
+use mathlib.Core.Bool.{Bool, true, false}
+use mathlib.Core.Logic.{inr}
 use mathlib.Core.List.{List}
 use Prim.Native.Nat.{ℕ, _+_, _≤_, _<_}
 use native.Mathlib.Omega.{arith}
@@ -17,14 +17,12 @@ use native.Mathlib.Decide.{ℕ-discrete}
 use borrow.Author.Tests.{eq-eqb, ne-eqb}
 use lib.Bits.{bitAnd}
 use lib.Dec.{T, eqb, ltb, ltb→lt, lt→ltb}
-use lib.ListN.{length, take}
 use Rattle.el.specs.Test.{bit}
 use Rattle.el.specs.TestLaws.{is-true, is-false, true-is, false-not, and-make, and-left, and-right, bit-none}
 use Rattle.el.specs.Table.{Table}
-use Rattle.el.specs.Assignment.{Acyclic, Reaches, once, then, depends, acyclic}
+use Rattle.el.specs.Assignment.{Acyclic, Reaches, once, depends, acyclic}
 use Rattle.el.specs.BitLaws.{bit-and}
 use Rattle.el.specs.CircleLaws.{reaches-along, circle-some, circle-stands}
-use Rattle.el.specs.NodeLaws.{depends-unchosen}
 use Rattle.el.specs.ReachLaws.{reaches-first, acyclic-says}
 use Rattle.node.specs.declared.Sets.{Sets}
 use Rattle.node.specs.Node.{nodeOf}

@@ -1,5 +1,5 @@
 -- `node::atoms_of` meets its contract. The invariant: the atoms of the first k restrictions with a marked filler; the measure is what is left of them.
-use mathlib.Core.Path.{sym, ap, _∙_}
+use mathlib.Core.Path.{ap, _∙_}
 use mathlib.Core.Logic.{⊎-elim}
 use Prim.Native.Nat.{_-_, _≤_}
 use native.Mathlib.Omega.{arith}

@@ -1,6 +1,6 @@
 -- `node::is_acyclic` meets its contract. The invariant: what leads to itself stands, and each round struck some out; the measure is what is left of v.
 use mathlib.Core.Path.{_≡_}
-use Prim.Native.Nat.{_-_, _≤_}
+use Prim.Native.Nat.{_-_}
 use native.Mathlib.Omega.{arith}
 use borrow.Author.Needs.{needs}
 use lib.ListN.{length}

@@ -1,9 +1,8 @@
 -- `node::leading_to` meets its contract. The invariant: what is marked leads to the mask, and each round marked more; the measure is what is left of n.
-use mathlib.Core.Path.{sym}
-use Prim.Native.Nat.{_-_, _≤_}
-use native.Mathlib.Omega.{arith}
+
+use Prim.Native.Nat.{_-_}
 use borrow.Author.Needs.{needs}
-use Rattle.node.specs.Marks.{Marking, ones}
+use Rattle.node.specs.Marks.{Marking}
 use Rattle.node.specs.MarkLaws.{marking-start, marking-more, leads-stable, leads-full}
 use Rattle.node.proofs.leading_to.Statement.{statement}
 use Rattle.node.proofs.leading_to.Tie as tie

@@ -310,6 +310,19 @@ static void group_lines(void)
     ask_line_number(bytes, length - 1, 0);
 }
 
+/* Rings of one to four variables, entered from another or not, with a variable
+   open after them or none: every kind of circle that trees.c knows. */
+static void group_circles(void)
+{
+    u8 bytes[DRAFT_BYTES];
+    struct draft draft;
+    for (u32 i = 0; i < 16; i++) {
+        make_ring(&draft, i / 4 % 2, 1 + i % 4, i / 8);
+        u32 length = write_draft(&draft, bytes);
+        ask_solve_with(bytes, length, largest, 4 * draft.v);
+    }
+}
+
 /* A set number beyond two bytes: the one long walk. There is none where walks
    are to be short. */
 static void group_long_walk(void)
@@ -602,8 +615,9 @@ static void group_by_chance(void)
     groups[i].ask();
 }
 
-/* Each group of limits and damage once, and then groups by chance. What must not
-   be missing (kinds.c) is in the first ones, whatever the count. */
+/* Each group of limits, circles and damage once, and then groups by chance. What
+   must not be missing (kinds.c, trees.c) is in the first ones, whatever the
+   count. */
 static void ask_all(u64 count)
 {
     group_places();
@@ -613,6 +627,7 @@ static void ask_all(u64 count)
     group_output_bounds();
     group_outputs();
     group_lines();
+    group_circles();
     group_bounds();
     group_mark();
     group_damage();

@@ -159,6 +159,37 @@ static void make_two_towers(struct chance *chance, u32 walk, struct draft *draft
     add_lines_by_trial(chance, walk, draft, between(chance, 1, 5), 3);
 }
 
+void make_ring(struct draft *draft, u32 before, u32 ring, u32 after)
+{
+    u32 all = before + ring;
+    draft_start(draft, 0, 1, all + after);
+    for (u32 x = 0; x < all; x++) {
+        add_row(draft, 0, CODE_VARIABLE + (x + 1 < all ? x + 1 : before));
+    }
+    add_row(draft, 0, CODE_TOP);
+    for (u32 x = 0; x < all; x++) {
+        u8 left = (u8)(CODE_VARIABLE + x);
+        add_line(draft, 1, &left, CODE_RESTRICTION + all);
+    }
+}
+
+/* A ring, often with a way across it, a constant, or a row of another role. */
+static void make_circles(struct chance *chance, u32 walk, struct draft *draft)
+{
+    make_ring(draft, below_bound(chance, 3), between(chance, 1, 5), below_bound(chance, 3));
+    draft->c = (u32)percent(chance, 30);
+    if (percent(chance, 50)) {
+        draft->row[below_bound(chance, draft->e - 1)].filler = (u8)(CODE_VARIABLE + below_bound(chance, draft->v));
+    }
+    if (percent(chance, 20)) {
+        draft->r = 2;
+        draft->row[below_bound(chance, draft->e)].role = 1;
+    }
+    if (percent(chance, 60)) {
+        add_lines_by_trial(chance, walk, draft, between(chance, 1, 3), 3);
+    }
+}
+
 /* Counts up to the bounds, and a few lines that are easy to meet. */
 static void make_wide(struct chance *chance, u32 walk, struct draft *draft)
 {
@@ -199,9 +230,9 @@ struct make {
 };
 
 static const struct make makes[] = {
-    { 10, make_small }, { 27, make_by_trial }, { 12, make_chain }, { 10, make_deep },
-    { 8, make_broad },  { 10, make_wide },     { 7, make_tower },  { 8, make_two_towers },
-    { 5, make_long },   { 3, make_ground },
+    { 10, make_small }, { 21, make_by_trial }, { 12, make_chain }, { 10, make_deep },
+    { 8, make_broad },  { 8, make_wide },      { 7, make_tower },  { 8, make_two_towers },
+    { 8, make_circles }, { 5, make_long },     { 3, make_ground },
 };
 
 void make_table(struct chance *chance, u32 walk, struct draft *draft)

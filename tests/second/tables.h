@@ -13,4 +13,12 @@ void make_table(struct chance *chance, u32 walk, struct draft *draft);
 /* The same, with at least one row and a last line that has a left entry. */
 void make_full_table(struct chance *chance, u32 walk, struct draft *draft);
 
+/* A ring of variables, entered from those before it: each variable's row leads to
+   the next, and the last of the ring has one to its first. Each of them is below
+   r.top, whose row is the last; those after the ring have no lines. So variable x
+   has the sets 0 to 2^x, of which those between lead back to it; the last of the
+   ring has one more row to go through. Solved, with N = 3 * 2^(n - 1) + n + after,
+   where n is before + ring. */
+void make_ring(struct draft *draft, u32 before, u32 ring, u32 after);
+
 #endif

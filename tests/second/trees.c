@@ -6,7 +6,11 @@
 
    So it is slow: a walk of more than MOST_NODES nodes, or a line whose
    descriptions have more than MOST_CONJUNCTS conjuncts, ends the run with
-   status 2. */
+   status 2.
+
+   trees circles: replies nothing, and says how often the walks of the stream
+   ended a branch at a circle of the rarest kind. Ends with status 1 if there was
+   none of a kind (below, "Circles that were met"). */
 
 #include "replies.h"
 #include "stream.h"
@@ -305,28 +309,46 @@ static int next_set(struct node *node, u32 x)
 
 /* ---- Dependences */
 
-/* Marks each variable on which x depends over one or more steps. "X depends
-   directly on Y if a restriction with filler Y is in X's set", and "only chosen
-   variables have dependences". */
-static void visit(const struct node *node, u32 x, u8 *visited)
+/* Marks each variable on which x depends directly: "X depends directly on Y if a
+   restriction with filler Y is in X's set", and "only chosen variables have
+   dependences". */
+static void mark_direct(const struct node *node, u32 x, u8 *marked)
 {
     const struct table *table = node->table;
     for (u32 k = 0; x < node->chosen && k < table->e; k++) {
         u32 filler = filler_of(table, k);
-        if (node->in[x][table->c + k] && range_of(filler) == VARIABLE && !visited[number_in(filler)]) {
-            visited[number_in(filler)] = 1;
-            visit(node, number_in(filler), visited);
+        if (node->in[x][table->c + k] && range_of(filler) == VARIABLE) {
+            marked[number_in(filler)] = 1;
         }
     }
+}
+
+/* Marks each variable on which x depends over one or more steps. */
+static void visit(const struct node *node, u32 x, u8 *visited)
+{
+    u8 direct[MOST_VARIABLES] = { 0 };
+    mark_direct(node, x, direct);
+    for (u32 y = 0; y < MOST_VARIABLES; y++) {
+        if (direct[y] && !visited[y]) {
+            visited[y] = 1;
+            visit(node, y, visited);
+        }
+    }
+}
+
+/* "depends on itself over one or more steps" */
+static int in_circle(const struct node *node, u32 x)
+{
+    u8 visited[MOST_VARIABLES] = { 0 };
+    visit(node, x, visited);
+    return visited[x];
 }
 
 /* "acyclic if no variable depends on itself over one or more steps" */
 static int cyclic(const struct node *node)
 {
     for (u32 x = 0; x < node->chosen; x++) {
-        u8 visited[MOST_VARIABLES] = { 0 };
-        visit(node, x, visited);
-        if (visited[x]) {
+        if (in_circle(node, x)) {
             return 1;
         }
     }
@@ -453,12 +475,77 @@ static int holds(const struct node *node, u32 line)
     return below(left, substituted(node, right_entry(table, line), 0));
 }
 
+/* ---- Circles that were met */
+
+/* The kinds: by the variables of the shortest circle (one, two, three, or more),
+   whether variable 0 is in a circle, and whether a variable is open. */
+enum { LENGTHS = 4 };
+
+static u64 met[LENGTHS][2][2];
+
+/* In how many steps the variable chosen last comes back to itself. Every circle
+   of the node leads over it, since the node above has none. */
+static u32 steps_back(const struct node *node)
+{
+    u8 at[MOST_VARIABLES] = { 0 };
+    at[node->chosen - 1] = 1;
+    for (u32 steps = 1;; steps++) {
+        u8 next[MOST_VARIABLES] = { 0 };
+        for (u32 x = 0; x < MOST_VARIABLES; x++) {
+            if (at[x]) {
+                mark_direct(node, x, next);
+            }
+        }
+        if (next[node->chosen - 1]) {
+            return steps;
+        }
+        memcpy(at, next, sizeof at);
+    }
+}
+
+static void count_circle(const struct node *node)
+{
+    u32 steps = steps_back(node);
+    met[(steps < LENGTHS ? steps : LENGTHS) - 1][in_circle(node, 0)][node->chosen < node->table->v]++;
+}
+
+static void put_kind(u32 length, u32 zero, u32 open)
+{
+    static const char *const lengths[LENGTHS] = { "one", "two", "three", "four or more" };
+    put_text("trees: never met: a circle of ");
+    put_text(lengths[length]);
+    put_text(zero ? ", with variable 0" : ", without variable 0");
+    put_text(open ? ", while a variable is open\n" : ", at a full node\n");
+}
+
+/* Says what was not met. Answers whether anything is missing. */
+static int judge_circles(void)
+{
+    u64 rarest = ~(u64)0;
+    for (u32 kind = 0; kind < 4 * LENGTHS; kind++) {
+        u32 length = kind / 4, zero = kind / 2 % 2, open = kind % 2;
+        u64 count = met[length][zero][open];
+        rarest = count < rarest ? count : rarest;
+        if (count == 0) {
+            put_kind(length, zero, open);
+        }
+    }
+    if (rarest > 0) {
+        put_text("circles of every kind are met in their walks (the rarest: ");
+        put_number(rarest);
+        put_text(")\n");
+    }
+    flush();
+    return rarest == 0;
+}
+
 /* ---- The walk */
 
 /* "A node is dead if its chosen sets are cyclic, or else if a ready line fails." */
 static int dead(const struct node *node)
 {
     if (cyclic(node)) {
+        count_circle(node);
         return 1;
     }
     for (u32 i = 0; i < node->table->m; i++) {
@@ -596,9 +683,32 @@ static struct answer trees_solve(const u8 *bytes, u32 length, u32 budget, u8 *ou
     return walk_table(&table, budget, output);
 }
 
-int main(void)
+/* Solves what a stream asks to be solved, and replies nothing. */
+static void walk_stream(void)
+{
+    static struct question question;
+    static u8 output[MOST_OUTPUT];
+    int got = get_question(&question);
+    for (; got == QUESTION; got = get_question(&question)) {
+        if (question.kind == KIND_SOLVE) {
+            trees_solve(question.table, question.length, question.number, output, question.room);
+        }
+    }
+    if (got == STREAM_CUT) {
+        give_up("trees: the stream is cut");
+    }
+}
+
+int main(int words, char **word)
 {
     static const struct solver trees = { trees_read, trees_line, trees_solve };
+    if (words == 2 && strcmp(word[1], "circles") == 0) {
+        walk_stream();
+        return judge_circles();
+    }
+    if (words != 1) {
+        fail("usage: trees [circles]");
+    }
     reply_to_stream(&trees);
     return 0;
 }

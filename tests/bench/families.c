@@ -6,6 +6,7 @@
      variables  many variables, few atoms
      lines      many lines with long left sides
      none       no solution, found only at the end of a long walk
+     bounds     one table at every bound, for the measure of the stack
 
    families NAME short: the same tables with small budgets. */
 
@@ -227,6 +228,27 @@ static void none(void)
     torn_chain(4, 4);
 }
 
+/* ---- bounds */
+
+/* 12 variables, 24 atoms and 64 lines, most of them of 8 left entries: a tower of
+   twelve variables on r.top, two restrictions on whose highest ones are compared
+   down to the bottom. Solved with N = 4108, like the case tower-12. */
+static void bounds(void)
+{
+    struct draft draft;
+    u8 left = CODE_RESTRICTION + 12;
+    draft_start(&draft, 0, 16, 12);
+    add_row(&draft, 0, CODE_TOP);
+    for (u32 x = 0; x < 12; x++) {
+        add_row(&draft, 0, variable(x));
+        below_code(&draft, x, CODE_RESTRICTION + x);
+    }
+    add_line(&draft, 1, &left, CODE_RESTRICTION + 11);
+    add_random_rows(&chance, &draft, 24 - draft.e);
+    add_easy_lines(&chance, &draft, 64 - draft.m, 8, 8);
+    ask(&draft, 0xFFFFFFFF);
+}
+
 /* ---- */
 
 struct family {
@@ -237,7 +259,7 @@ struct family {
 
 static const struct family families[] = {
     { "chains", 1, chains },       { "constants", 2, constants }, { "variables", 3, variables },
-    { "lines", 4, lines },         { "none", 5, none },
+    { "lines", 4, lines },         { "none", 5, none },           { "bounds", 6, bounds },
 };
 
 int main(int words, char **word)

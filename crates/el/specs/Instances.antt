@@ -10,7 +10,7 @@
 use mathlib.Core.Path.{_≡_, refl}
 use mathlib.Core.Bool.{Bool, true, false, _&&_, _||_, not}
 use mathlib.Core.List.{[], _∷_}
-use Prim.Native.Nat.{ℕ, suc, _^_, _<_}
+use Prim.Native.Nat.{ℕ, zero, suc, _^_, _<_}
 use native.Mathlib.Omega.{arith}
 use lib.Dec.{T, eqb, ltb, ltb→lt, T-not}
 use lib.ListN.{length}
@@ -62,13 +62,13 @@ p5-cyclic f = false-not (acyclic p5 (1 ∷ [])) p5-test (acyclic-means p5 p5-dec
 ----------------------------------------------------------------------------------------------------
 -- The finite fact behind the cycle test, at a circle of two that is entered from outside
 
-entered : ℕ → ℕ → Bool
+abbrev pub entered : ℕ → ℕ → Bool
 entered x y = (eqb x 0 && eqb y 1) || ((eqb x 1 && eqb y 2) || (eqb x 2 && eqb y 1))
 
 entered-stands : Stand entered (λ x. ltb x 3)
-entered-stands 0 u = (1, tt, tt)
-entered-stands 1 u = (2, tt, tt)
-entered-stands 2 u = (1, tt, tt)
+entered-stands zero u = (1, tt, tt)
+entered-stands (suc zero) u = (2, tt, tt)
+entered-stands (suc (suc zero)) u = (1, tt, tt)
 entered-stands (suc (suc (suc x))) u = absurd (let h : suc (suc (suc x)) < 3 = ltb→lt (suc (suc (suc x))) 3 u in let z : ⊥ = omega arith in z)
 
 pub entered-circle : (z : ℕ) × T (ltb z 3) × Reaches entered z z

@@ -1,7 +1,7 @@
 -- The theorems at concrete tables: their hypotheses are met, and the outcomes are computed from the definitions.
 --
 --   p5-cyclic                                   == X = {some r X} is cyclic, so it does not solve P5
---   entered-circle                              == of three, where 0 depends on 1, 1 on 2 and 2 on 1, one leads to itself
+--   entered-circle, chain-struck                == of three, where 0 depends on 1, 1 on 2 and 2 on 1, one leads to itself; where 2 depends on none, none does, for nothing stands at the end
 --   p5-none, p12-none, p12-not-unifiable        == no assignment solves P5, none solves P12, and no substitution makes P12's lines true
 --   p6-solved                                   == X = {A} solves P6
 --   p6-local, p6-local-solves                   == the local assignment of `deep` is X = {A}, and locality says that it solves
@@ -9,13 +9,14 @@
 --   growth-keeps, growth-back-keeps, ..-solving == growth applied
 use mathlib.Core.Path.{_≡_, refl}
 use mathlib.Core.Bool.{Bool, true, false, _&&_, _||_, not}
+use mathlib.Core.Logic.{inl, inr}
 use mathlib.Core.List.{[], _∷_}
 use Prim.Native.Nat.{ℕ, zero, suc, _^_, _<_}
 use native.Mathlib.Omega.{arith}
-use lib.Dec.{T, eqb, ltb, ltb→lt, T-not}
+use lib.Dec.{T, eqb, ltb, eqb→eq, ltb→lt, T-not}
 use lib.ListN.{length}
 use Rattle.el.specs.Test.{anyBelow, allBelow, everyOf, bit}
-use Rattle.el.specs.TestLaws.{and-left, false-not, allBelow-at}
+use Rattle.el.specs.TestLaws.{or-cases, and-left, false-not, allBelow-at}
 use Rattle.el.specs.Description.{sameRole}
 use Rattle.el.specs.OrderLaws.{sameRole-refl, sameRole-trans}
 use Rattle.el.specs.Table.{Table, rowAt, atoms, declared}
@@ -23,6 +24,8 @@ use Rattle.el.specs.Meaning.{holds, makes}
 use Rattle.el.specs.Assignment.{Assignment, setOf, IsAssignment, depends, path, Reaches, reaches, Acyclic, acyclic, atomUnder, conjoin, setUnder, inducedTo, induced, Solves, solves}
 use Rattle.el.specs.ReachLaws.{acyclic-means}
 use Rattle.el.specs.CircleLaws.{Stand, circle-some}
+use Rattle.el.specs.Standing.{standing}
+use Rattle.el.specs.StandingLaws.{stands-below, struck-exactly}
 use Rattle.el.specs.Locality.{number, listTo, localSet, localAssignment, IsLocal, Unifiable, Solvable}
 use Rattle.el.specs.LocalityLaws.{locality, local-iff, solves-means}
 use Rattle.el.specs.Growth.{Grows}
@@ -73,6 +76,26 @@ entered-stands (suc (suc (suc x))) u = absurd (let h : suc (suc (suc x)) < 3 = l
 
 pub entered-circle : (z : ℕ) × T (ltb z 3) × Reaches entered z z
 entered-circle = circle-some 3 entered (λ x. ltb x 3) (λ x u. ltb→lt x 3 u) entered-stands 0 tt
+
+abbrev pub chain : ℕ → ℕ → Bool
+chain x y = (eqb x 0 && eqb y 1) || (eqb x 1 && eqb y 2)
+
+chain-low : (x y : ℕ) → T (chain x y) → x < 3
+chain-low x y u =
+    elim (or-cases (eqb x 0 && eqb y 1) (eqb x 1 && eqb y 2) u) [
+      | inl w ↦ (let e : x ≡ 0 = eqb→eq x 0 (and-left (eqb x 0) (eqb y 1) w) in omega arith)
+      | inr w ↦ (let e : x ≡ 1 = eqb→eq x 1 (and-left (eqb x 1) (eqb y 2) w) in omega arith)
+    ]
+
+chain-stands : (x : ℕ) → T (standing chain 3 3 x) → ⊥
+unfolding standing anyBelow
+chain-stands zero u = u
+chain-stands (suc zero) u = u
+chain-stands (suc (suc zero)) u = u
+chain-stands (suc (suc (suc x))) u = (let h : suc (suc (suc x)) < 3 = stands-below chain 3 3 (suc (suc (suc x))) u in omega arith)
+
+pub chain-struck : (x : ℕ) → Reaches chain x x → ⊥
+chain-struck = struck-exactly chain 3 chain-low .0 chain-stands
 
 ----------------------------------------------------------------------------------------------------
 -- Where no assignment solves: the sets of the one variable are tried in turn

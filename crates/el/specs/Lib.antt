@@ -14,7 +14,6 @@ pub mod TestLaws
 pub mod BitLaws
 pub mod TableLaws
 pub mod ReachLaws
-pub mod CircleLaws
 pub mod Conjuncts
 pub mod OrderLaws
 pub mod Below
@@ -22,6 +21,9 @@ pub mod NodeLaws
 pub mod OutcomeLaws
 pub mod Rank
 pub mod InducedLaws
+pub mod Standing
+pub mod CircleLaws
+pub mod StandingLaws
 pub mod Locality
 pub mod LocalityLaws
 pub mod Counting

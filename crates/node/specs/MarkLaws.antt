@@ -2,7 +2,7 @@
 --
 --   atoms-start, atoms-more, atoms-skip, atoms-whole == the restrictions one by one, and what their atoms say
 --   has-some, has-all == the variables whose sets have one of the atoms are those that depend on a marked one
---   more-ones, ones-most, all-ones, no-ones == how many variables masks have
+--   more-ones, all-ones == how many variables masks have
 --   marking-start, marking-more == a round that marks more
 --   leads-stable   == a round that marks no more
 --   leads-full     == as many rounds as variables
@@ -20,11 +20,11 @@ use lib.Bits.{bitAnd, bitOr}
 use lib.Dec.{T, T-not, not-T, eqb, ltb, eqb→eq, ltb→lt}
 use lib.ListN.{getD}
 use Rattle.el.specs.Test.{anyBelow, bit}
-use Rattle.el.specs.TestLaws.{is-false, true-is, false-not, same-test, or-left, or-right, or-cases, and-make, and-left, and-right, anyBelow-next, anyBelow-hit, anyBelow-found, bit-none}
+use Rattle.el.specs.TestLaws.{true-is, false-not, same-test, or-left, or-right, or-cases, and-make, and-left, and-right, anyBelow-next, anyBelow-hit, anyBelow-found}
 use Rattle.el.specs.Assignment.{Reaches, once, then}
 use Rattle.el.specs.BitLaws.{bit-or}
 use Rattle.el.specs.CircleLaws.{reaches-along}
-use Rattle.el.specs.InducedLaws.{countBelow-le, countBelow-lt, countBelow-all}
+use Rattle.el.specs.InducedLaws.{countBelow-lt, countBelow-all}
 use Rattle.el.specs.Rank.{countBelow}
 use Rattle.node.specs.Mask.{Masks, Picks}
 use Rattle.node.specs.MaskLaws.{masks-none, bit-added, bit-kept, meet-found, meet-hit, same-bits}
@@ -104,7 +104,7 @@ module _ {fill : List ℕ} {c e m atoms : ℕ} (into : AtomsInto fill c e m atom
 ----------------------------------------------------------------------------------------------------
 -- How many variables a mask has
 
-pub more-ones : (n a b : ℕ) → ((x : ℕ) → T (bit x a) → T (bit x b)) → ((x : ℕ) → T (bit x b) → T (bit x a) ⊎ (x < n)) → (a ≡ b → ⊥) → ones n a < ones n b
+more-ones : (n a b : ℕ) → ((x : ℕ) → T (bit x a) → T (bit x b)) → ((x : ℕ) → T (bit x b) → T (bit x a) ⊎ (x < n)) → (a ≡ b → ⊥) → ones n a < ones n b
 unfolding ones
 more-ones n a b adds low other = go (decLt (countBelow n (λ x. bit x a)) (countBelow n (λ x. bit x b)))
   where
@@ -117,10 +117,6 @@ more-ones n a b adds low other = go (decLt (countBelow n (λ x. bit x a)) (count
     go (yes h) = h
     go (no h) = absurd (other (same-bits a b (λ x. same-test (bit x a) (bit x b) (adds x) (λ u. at h x u (bit x a) refl))))
 
-pub ones-most : (n m : ℕ) → ones n m ≤ n
-unfolding ones
-ones-most n m = subst (λ (k : ℕ). countBelow n (λ x. bit x m) ≤ k) (countBelow-all n) (countBelow-le n (λ x. bit x m) (λ x. true) (λ i h u. tt))
-
 all-ones : (n m : ℕ) → n ≤ ones n m → (x : ℕ) → x < n → T (bit x m)
 unfolding ones
 all-ones n m h x l = go (bit x m) refl
@@ -130,13 +126,6 @@ all-ones n m h x l = go (bit x m) refl
     go false e =
         let f : countBelow n (λ x. bit x m) < countBelow n (λ x. true) = countBelow-lt n x (λ x. bit x m) (λ x. true) l (false-not (bit x m) e) tt (λ i k u. tt) in
         let g : countBelow n (λ x. true) ≡ n = countBelow-all n in absurd (let z : ⊥ = omega arith in z)
-
-pub no-ones : (n m : ℕ) → ((x : ℕ) → T (bit x m) → x < n) → ones n m ≤ 0 → m ≡ 0
-unfolding ones
-no-ones n m low h =
-    same-bits m 0 (λ x. is-false (bit x m) (λ u.
-    (let l : countBelow n (λ x. false) < countBelow n (λ x. bit x m) = countBelow-lt n x (λ x. false) (λ x. bit x m) (low x u) (λ w. w) u (λ i k w. absurd w) in
-    let z : ⊥ = omega arith in z)) ∙ sym (bit-none x))
 
 ----------------------------------------------------------------------------------------------------
 -- The variables that lead to the marks

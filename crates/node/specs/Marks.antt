@@ -7,15 +7,13 @@
 --   hasOne set atoms x     == the set of the variable x has one of the atoms
 --   Leading d seed m       == m has the variables of the mask `seed`, and of the others only such as lead to one of them
 --   LeadsInto d seed m     == m has all of those
---   Standing d n m         == m has only variables below n, and all that lead to themselves
 --   ones n m               == how many variables below n the mask m has
 --   Marking fill c e set n seed m atoms i == after i rounds that each marked more: m leads to `seed`, and the atoms lead to m
---   Striking fill c e set n v m i == after i rounds that each struck out some of v variables, m is what stands
 use mathlib.Core.Path.{_≡_}
 use mathlib.Core.Bool.{Bool, _&&_, not}
 use mathlib.Core.Logic.{_⊎_}
 use mathlib.Core.List.{List}
-use Prim.Native.Nat.{ℕ, _+_, _≤_, _<_}
+use Prim.Native.Nat.{ℕ, _+_, _≤_}
 use lib.Bits.{bitAnd}
 use lib.Dec.{T, eqb, ltb}
 use lib.ListN.{getD}
@@ -49,11 +47,6 @@ pub record LeadsInto (d : ℕ → ℕ → Bool) (seed m : ℕ) : Type 0 where
   pub leading : Leading d seed m
   pub all : (x y : ℕ) → T (d x y) → T (bit y m) → T (bit x m)
 
--- "Strike out variables that depend on nothing still standing": what stands
-pub record Standing (d : ℕ → ℕ → Bool) (n m : ℕ) : Type 0 where
-  pub below : (x : ℕ) → T (bit x m) → x < n
-  pub circles : (x : ℕ) → Reaches d x x → T (bit x m)
-
 unfoldable pub ones : ℕ → ℕ → ℕ
 ones n m = countBelow n (λ x. bit x m)
 
@@ -61,7 +54,3 @@ pub record Marking (fill : List ℕ) (c e : ℕ) (set : List ℕ) (n seed m atom
   pub leading : Leading (dependsIn fill c e set n) seed m
   pub into : AtomsInto fill c e m atoms
   pub rounds : i ≤ ones n m
-
-pub record Striking (fill : List ℕ) (c e : ℕ) (set : List ℕ) (n v m i : ℕ) : Type 0 where
-  pub standing : Standing (dependsIn fill c e set n) v m
-  pub rounds : ones v m + i ≤ v

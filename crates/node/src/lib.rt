@@ -199,7 +199,7 @@ pub fn is_acyclic(fill: &[VariableMask], c: usize, e: usize, v: usize, sets: Set
         standing = left;
         round += 1;
     }
-    true
+    standing == 0
 }
 
 // The mask of the settled variables at the node of the first n sets: those chosen that lead to none that is not.

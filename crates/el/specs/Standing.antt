@@ -1,0 +1,12 @@
+-- Striking out: which numbers below v still stand after some rounds.
+--
+--   standing d v k x == x stands after k rounds, each of which strikes out what has no step of d to what still stood
+use mathlib.Core.Bool.{Bool, _&&_}
+use Prim.Native.Nat.{ℕ, zero, suc}
+use lib.Dec.{ltb}
+use Rattle.el.specs.Test.{anyBelow}
+
+-- "Strike out variables that depend on nothing still standing": at first all stand
+unfoldable pub standing : (ℕ → ℕ → Bool) → ℕ → ℕ → ℕ → Bool
+standing d v zero x = ltb x v
+standing d v (suc k) x = standing d v k x && anyBelow v (λ y. d x y && standing d v k y)

@@ -1,83 +1,35 @@
--- What the questions ask of masks, and that over a table's rows they are the rule.
+-- The questions as they are asked, and that over a table's rows they are the rule.
 --
---   low-bits                    == the rest modulo 2 ^ c says whether one of the first c bits is set
---   none-start, none-off, none-fails, none-rest, none-end, some-passes == the loop over the bits of a mask
---   constants-missing, constants-there == a missing constant decides, and none is missing
+--   constants-missing           == a missing constant decides
 --   constant-at, rows-at        == a conjunction below a constant, and below a restriction, as it is asked
 --   each-holds, each-fails, each-none == a conjunction below every atom of a set, as it is asked
 --   filler-flat, filler-sets    == a filler below a filler, as it is asked
 --   set-asked, each-asked, filler-asked == over the rows of a table the three questions answer the rule
 use mathlib.Core.Path.{_≡_, refl, sym, ap, ap₂, subst, _∙_}
-use mathlib.Core.Bool.{Bool, true, false, _&&_, _||_, not, and-assoc, and-comm, and-false, or-true, or-false}
+use mathlib.Core.Bool.{Bool, true, false, _&&_, _||_, not, and-assoc, and-comm, and-false}
 use mathlib.Core.List.{List}
-use mathlib.Core.Option.{some}
-use Prim.Native.Nat.{ℕ, zero, suc, _+_, _-_, _*_, _/_, _%_, _^_, _≤_, _<_}
+use Prim.Native.Nat.{ℕ, zero, suc, _+_, _-_, _/_, _^_, _≤_, _<_}
 use native.Mathlib.Omega.{arith}
 use native.Mathlib.Decide.{decLt}
 use lib.Dec.{T, eqb, ltb}
-use lib.ListN.{length, getD}
+use lib.ListN.{getD}
 use lib.Bits.{bitAnd}
-use lib.Pow.{pow-pos, mod-pow-add}
-use borrow.Author.Tests.{ne-eqb, lt-ltb, le-ltb}
+use borrow.Author.Tests.{lt-ltb, le-ltb}
 use Rattle.el.specs.OrderLaws.{roleOrder-refl}
 use Rattle.el.specs.Test.{anyBelow, allBelow, bit}
-use Rattle.el.specs.TestLaws.{is-true, true-is, same-test, false-not, anyBelow-hit, anyBelow-found, anyBelow-none, anyBelow-same, anyBelow-step, anyBelow-true-at, anyBelow-false-at, allBelow-same}
+use Rattle.el.specs.TestLaws.{is-true, true-is, same-test, false-not, anyBelow-hit, anyBelow-found, anyBelow-same, anyBelow-true-at, allBelow-same}
 use Rattle.el.specs.Table.{Filler, Table, rowAt, atoms, roleOrder}
 use Rattle.el.specs.Assignment.{Assignment}
 use Rattle.table.specs.Reading.{tableOf, headerOf}
 use Rattle.table.specs.Layout.{IsRowFiller}
 use Rattle.table.specs.LayoutLaws.{layout}
-use Rattle.el.specs.BitLaws.{bit-on, bit-off, bit-more, high-none, bit-and, bit-missing}
+use Rattle.el.specs.BitLaws.{bit-more, bit-and, bit-missing}
 use Rattle.order.specs.Rule.{fillerSet, atomRow, flatTest, atomTest, setTest, fillerTest}
 use Rattle.order.specs.RuleLaws.{any-one, set-itself}
-use Rattle.order.specs.Given.{fillerFrom, RowsGiven, LineGiven}
+use Rattle.order.specs.Given.{fillerFrom, LineGiven}
 use Rattle.order.specs.Asked.{anyIn, missing, setAsk, eachAsk, fillerAsked}
+use Rattle.order.proofs.LowestLaws.{in-none}
 use Rattle.order.proofs.CodeLaws.{filler-read}
-
-----------------------------------------------------------------------------------------------------
--- Masks
-
--- a number whose next digit is d, its first ones r
-digit-any : (d p r : ℕ) → d < 2 → 0 < p → not (eqb (d * p + r) 0) ≡ not (eqb r 0) || eqb d 1
-digit-any zero p r h k = ap (λ (n : ℕ). not (eqb n 0)) (let z : zero * p + r ≡ r = omega arith in z) ∙ sym (or-false (not (eqb r 0)))
-digit-any (suc zero) p r h k = ap not (ne-eqb (suc zero * p + r) 0 (λ z. omega arith)) ∙ sym (or-true (not (eqb r 0)))
-digit-any (suc (suc d)) p r h k = absurd (let z : ⊥ = omega arith in z)
-
-pub low-bits : (c S : ℕ) → not (eqb (S % 2 ^ c) 0) ≡ anyBelow c (λ j. bit j S)
-unfolding anyBelow bit
-low-bits zero S = ap (λ (n : ℕ). not (eqb n 0)) (let z : S % 1 ≡ 0 = omega arith in z)
-low-bits (suc c) S =
-    ap (λ (n : ℕ). not (eqb (S % 2 ^ n) 0)) (let z : suc c ≡ 1 + c = omega arith in z)
-    ∙ ap (λ (n : ℕ). not (eqb n 0)) (mod-pow-add S 1 c) ∙ digit-any (S / 2 ^ c % 2) (2 ^ c) (S % 2 ^ c) (omega arith) (pow-pos c)
-    ∙ ap (λ b. b || eqb (S / 2 ^ c % 2) 1) (low-bits c S)
-
-module _ (m : ℕ) (q : ℕ → Bool) where
-  pub none-start : anyIn m 0 q ≡ false
-  unfolding anyIn anyBelow
-  none-start = refl
-
-  pub none-off : (k : ℕ) → anyIn m k q ≡ false → (m / 2 ^ k % 2 ≡ 1 → ⊥) → anyIn m (k + 1) q ≡ false
-  unfolding anyIn
-  none-off k h off = anyBelow-step k (λ i. bit i m && q i) h (ap (λ b. b && q k) (bit-off k m off))
-
-  pub none-fails : (k : ℕ) → anyIn m k q ≡ false → q k ≡ false → anyIn m (k + 1) q ≡ false
-  unfolding anyIn
-  none-fails k h f = anyBelow-step k (λ i. bit i m && q i) h (ap (λ b. bit k m && b) f ∙ and-false (bit k m))
-
-  pub none-rest : (n k : ℕ) → anyIn m k q ≡ false → m / 2 ^ k ≡ 0 → anyIn m n q ≡ false
-  unfolding anyIn
-  none-rest n k before z = anyBelow-none n (λ i. bit i m && q i) (λ i h. go i (decLt i k))
-    where
-      go : (i : ℕ) → Dec (i < k) → bit i m && q i ≡ false
-      go i (yes l) = anyBelow-false-at k i (λ j. bit j m && q j) before l
-      go i (no l) = ap (λ b. b && q i) (high-none m k i z (omega arith))
-
-  pub none-end : (n k : ℕ) → n ≤ k → k ≤ n → anyIn m k q ≡ false → anyIn m n q ≡ false
-  none-end n k h l e = let z : n ≡ k = omega arith in rw z e
-
-  pub some-passes : (n k : ℕ) → k < n → m / 2 ^ k % 2 ≡ 1 → q k ≡ true → anyIn m n q ≡ true
-  unfolding anyIn
-  some-passes n k h on p = anyBelow-true-at n k (λ i. bit i m && q i) h (ap₂ _&&_ (bit-on k m on) p)
 
 ----------------------------------------------------------------------------------------------------
 -- The questions as they are asked
@@ -92,7 +44,7 @@ module _ (over inner : List ℕ) (a : Assignment) (c e : ℕ) where
     unfolding setAsk
     rows-at h = rw (le-ltb j c h, setAsk)
 
-  -- a constant is asked by its bit alone: one that is missing decides, and where none is, the restrictions are left
+  -- a constant is asked by its bit alone: one that is missing decides
   pub constants-missing : (fb : ℕ → ℕ → Bool) (L R : ℕ) → anyBelow c (λ j. bit j (missing L R)) ≡ true → eachAsk over inner a c e fb L (missing L R) ≡ false
   unfolding eachAsk anyIn
   constants-missing fb L R t =
@@ -117,7 +69,7 @@ module _ (over inner : List ℕ) (a : Assignment) (c e : ℕ) where
     each-fails h = sym (ap not h)
 
     pub each-none : M ≡ 0 → true ≡ eachAsk over inner a c e fb L M
-    each-none z = each-holds (none-rest M (λ j. not (setAsk over inner a c e fb L j)) (c + e) 0 (none-start M (λ j. not (setAsk over inner a c e fb L j))) (omega arith))
+    each-none z = each-holds (in-none M (c + e) (λ j. not (setAsk over inner a c e fb L j)) z)
 
   pub filler-flat : (d f g : ℕ) → d ≡ 0 → flatTest (fillerFrom f) (fillerFrom g) ≡ fillerAsked over inner a c e d f g
   unfolding fillerAsked
@@ -130,10 +82,6 @@ module _ (over inner : List ℕ) (a : Assignment) (c e : ℕ) where
   filler-sets (suc d) f g L R n l r =
       ap₂ (λ (x y : ℕ). eachAsk over inner a c e (fillerAsked over inner a c e (suc d - 1)) x (missing x y)) l r
       ∙ ap (λ (k : ℕ). eachAsk over inner a c e (fillerAsked over inner a c e k) (fillerSet a (fillerFrom f)) (missing (fillerSet a (fillerFrom f)) (fillerSet a (fillerFrom g)))) (let z : suc d - 1 ≡ d = omega arith in z)
-
-pub constants-there : (c M : ℕ) (q : ℕ → Bool) → anyBelow c (λ j. bit j M) ≡ false → anyIn M c q ≡ false
-unfolding anyIn
-constants-there c M q t = anyBelow-none c (λ j. bit j M && q j) (λ j h. ap (λ b. b && q j) (anyBelow-false-at c j (λ i. bit i M) t h))
 
 ----------------------------------------------------------------------------------------------------
 -- The rule

@@ -9,7 +9,6 @@ use bounds::RowMask;
 use bounds::SetNumber;
 use table::Kind;
 ghost use mathlib.Core.Path.{_≡_};
-ghost use mathlib.Core.Bool.{false};
 ghost use Prim.Native.Nat.{_+_, _<_};
 ghost use lib.Dec.{T};
 ghost use lib.ListN.{length};
@@ -22,7 +21,7 @@ ghost use Rattle.table.specs.Reading.{headerOf, isReadable, reading, tableOf};
 ghost use Rattle.table.specs.Layout.{LineBegins, AtLine};
 ghost use Rattle.order.specs.Rule.{isConstant, flatTest, fillerSet, entrySet, leftSet};
 ghost use Rattle.order.specs.Given.{fillerFrom, entryFrom, FillerFits, EntryFits, Over, RowsGiven, SetsGiven, Asking, LineGiven};
-ghost use Rattle.order.specs.Asked.{setAsked, eachAsked, fillerAsked};
+ghost use Rattle.order.specs.Asked.{Lowest, setAsked, eachAsked, fillerAsked};
 
 // The rows of a table for the line test: bit k of `over[j]` says that row k's role lies under row j's, and `inner[k]` is the code of row k's
 // filler.
@@ -69,6 +68,13 @@ fn bit_of(s: SetNumber, i: usize) -> bool
     ensures { λ r. ⌜ r ≡ bit i s ⌝ }
 {
     (s >> i) % 2 == 1
+}
+
+// The lowest bit of a mask that has one.
+fn lowest(mask: SetNumber) -> usize
+    ensures { λ r. ⌜ ((mask ≡ 0 → ⊥) → Lowest mask r) ⌝ }
+{
+    u32::trailing_zeros(mask) as usize
 }
 
 // One of the first c atoms, the constants, is missing.
@@ -152,19 +158,16 @@ fn set_below(
         return bit_of(s, j);
     }
     let filler = inner[j - c];
-    let near = (s >> c) & over[j - c];
-    let mut k = 0;
-    while k < e {
-        let rest = near >> k;
-        if rest == 0 {
+    let mut near = (s >> c) & over[j - c];
+    while near != 0 {
+        let k = lowest(near);
+        if e <= k {
             return false;
         }
-        if rest % 2 == 1 {
-            if filler_below(over, inner, set, c, e, inner[k], filler, depth) {
-                return true;
-            }
+        if filler_below(over, inner, set, c, e, inner[k], filler, depth) {
+            return true;
         }
-        k += 1;
+        near = near ^ (1 << k);
     }
     false
 }
@@ -180,21 +183,19 @@ fn each_below(
     missing: SetNumber,
     depth: usize,
 ) -> bool
-    requires { ⌜ Asking (now over) (now inner) (now set) c e × (anyBelow c (λ j. bit j missing) ≡ false) ⌝ }
+    requires { ⌜ Asking (now over) (now inner) (now set) c e ⌝ }
     ensures { λ r. ⌜ r ≡ eachAsked (now (over .entry)) (now (inner .entry)) (now (set .entry)) c e depth left missing ⌝ }
 {
-    let mut j = c;
-    while j < c + e {
-        let rest = missing >> j;
-        if rest == 0 {
+    let mut rest = missing;
+    while rest != 0 {
+        let j = lowest(rest);
+        if c + e <= j {
             return true;
         }
-        if rest % 2 == 1 {
-            if !set_below(over, inner, set, c, e, left, j, depth) {
-                return false;
-            }
+        if !set_below(over, inner, set, c, e, left, j, depth) {
+            return false;
         }
-        j += 1;
+        rest = rest ^ (1 << j);
     }
     true
 }

@@ -1,7 +1,7 @@
 -- The three questions meet their contracts. The measure is three times the dependences left, one more for the conjunction's question and two more for that
--- of two conjunctions. The loop of `set_below`: no row passed so far lies below the atom; of `each_below`: no missing atom passed so far fails, and it begins
--- after the constants, of which none is missing.
-use mathlib.Core.Path.{_≡_, sym, ap, _∙_}
+-- of two conjunctions. The loops go over the bits of a mask, lowest first: what is asked of the whole mask is asked of what is left of it. Their measure is how
+-- many bits are left.
+use mathlib.Core.Path.{_≡_, refl, sym, ap, _∙_}
 use mathlib.Core.Bool.{true, false, not}
 use mathlib.Core.Logic.{⊎-elim}
 use Prim.Native.Nat.{ℕ, _+_, _*_, _-_, _≤_, _<_}
@@ -9,8 +9,12 @@ use native.Mathlib.Omega.{arith}
 use borrow.Author.Needs.{needs}
 use borrow.Author.Tests.{not-true, not-false}
 use lib.ListN.{getD}
+use Rattle.bounds.specs.Bounds.{setBits}
+use Rattle.el.specs.Test.{bit}
+use Rattle.el.specs.Rank.{countBelow}
 use Rattle.order.specs.Asked.{anyIn, setAsked, fillerAsked}
-use Rattle.order.proofs.AskedLaws.{none-start, none-off, none-fails, none-rest, none-end, some-passes, constant-at, rows-at, constants-missing, constants-there, each-holds, each-fails, each-none, filler-flat, filler-sets}
+use Rattle.order.proofs.LowestLaws.{less-ones, in-past, in-hit, in-next, in-none}
+use Rattle.order.proofs.AskedLaws.{constant-at, rows-at, constants-missing, each-holds, each-fails, each-none, filler-flat, filler-sets}
 use borrow.Fn.Kinds.{In}
 use borrow.Fn.PlainCycle.{Measures, is, falls, and}
 use Rattle.order.proofs.filler_below.Reads as filler-below
@@ -26,6 +30,7 @@ use Rattle.order.proofs.bit_of.Reads as bit-of-reads
 use Rattle.order.proofs.filler_set.Reads as filler-set-reads
 use Rattle.order.proofs.flat_below.Reads as flat-below-reads
 use Rattle.order.proofs.lacks_constant.Reads as lacks-constant-reads
+use Rattle.order.proofs.lowest.Reads as lowest-reads
 use Rattle.order.proofs.+each_below+filler_below+set_below.{statement}
 use Rattle.order.proofs.+each_below+filler_below+set_below.Tie.{close}
 
@@ -66,39 +71,42 @@ each-below-below t =
     and 3 each-below-kinds.ps (falls 3 each-below-kinds.ps _<_ μ-each-below t) each-below.Pre
 
 abbrev set-below-Inv-loop : set-below-lts.InvT-loop
-set-below-Inv-loop over inner set c e s j depth filler near k₀ k = (k ≤ e) × (anyIn near k (λ i. fillerAsked over inner set c e depth (getD inner i 0) filler) ≡ false)
+set-below-Inv-loop over inner set c e s j depth filler near₀ near =
+    anyIn near₀ e (λ i. fillerAsked over inner set c e depth (getD inner i 0) filler) ≡ anyIn near e (λ i. fillerAsked over inner set c e depth (getD inner i 0) filler)
 
 abbrev set-below-μ-loop : set-below-lts.MeasureT-loop
-set-below-μ-loop over inner set c e s j depth filler near k₀ k = e - k
+set-below-μ-loop over inner set c e s j depth filler near₀ near = countBelow setBits (λ i. bit i near)
 
 abbrev each-below-Inv-loop : each-below-lts.InvT-loop
-each-below-Inv-loop over inner set c e left missing depth j₀ j = (j ≤ c + e) × (anyIn missing j (λ i. not (setAsked over inner set c e depth left i)) ≡ false)
+each-below-Inv-loop over inner set c e left missing depth rest₀ rest =
+    anyIn missing (c + e) (λ i. not (setAsked over inner set c e depth left i)) ≡ anyIn rest (c + e) (λ i. not (setAsked over inner set c e depth left i))
 
 abbrev each-below-μ-loop : each-below-lts.MeasureT-loop
-each-below-μ-loop over inner set c e left missing depth j₀ j = c + e - j
+each-below-μ-loop over inner set c e left missing depth rest₀ rest = countBelow setBits (λ i. bit i rest)
 
 pub +each-below+filler-below+set-below-spec : {M : Type 1} → statement M
 +each-below+filler-below+set-below-spec =
-    close μ-each-below μ-filler-below μ-set-below (λ t. each-below-lts.spec
-    (set-below-below t, set-below.Post)
+    close μ-each-below μ-filler-below μ-set-below (λ t. each-below-lts.spec (
+      lowest-reads.Asked,
+      lowest-reads.Learnt,
+      set-below-below t,
+      set-below.Post,
+    )
     (each-below-at t)
     each-below.Post
     each-below-Inv-loop
     each-below-μ-loop
-    (λ c. (omega arith, constants-there _ _ _ (c .before .before .before .pre .1 .1)))
+    (λ c. refl)
+    (λ c κs. search needs)
     (λ c. omega arith)
-    (λ c. omega arith)
-    (λ c. omega arith)
-    (λ c. each-holds _ _ _ _ _ _ _ _ (none-rest _ _ _ _ (c .before .before .loop .inv .1) (c .if1 .taken)))
-    (λ c κs. (omega arith, (c .before .before .before .before .before .before .before .pre .1 .0, c .before .before .loop-test .taken)))
-    (λ c. each-fails _ _ _ _ _ _ _ _ (some-passes _ _ _ _ (c .before .before .before .before .loop-test .taken) (c .before .before .if2 .taken) (ap not (sym (c .before .set-below .ensures) ∙ not-true _ (c .if3 .taken)))))
-    (λ c. omega arith)
-    (λ c. omega arith)
-    (λ c. (
-      omega arith,
-      ⊎-elim (λ w. none-fails _ _ _ (c .before .before .before .loop .inv .1) (ap not (sym (w .1 .ensures) ∙ not-false _ (w .2 .left)))) (λ w. none-off _ _ _ (c .before .before .before .loop .inv .1) (w .left)) (c .if2 .came),
-    ))
-    (λ c. each-holds _ _ _ _ _ _ _ _ (none-end _ _ _ _ (c .loop-test .left) (c .before .loop .inv .0) (c .before .loop .inv .1))))
+    (λ c. each-holds _ _ _ _ _ _ _ _ (c .before .before .before .loop .inv ∙ in-past _ _ (c .before .lowest .ensures (c .before .before .loop-test .taken)) _ _ (c .if1 .taken)))
+    (λ c κs. (omega arith, (c .before .before .before .before .before .before .before .pre .1, omega arith)))
+    (λ c. each-fails _ _ _ _ _ _ _ _ (c .before .before .before .before .before .loop .inv ∙ in-hit _ _ (c .before .before .before .lowest .ensures (c .before .before .before .before .loop-test .taken)) _ _ (omega arith) (ap not (sym (c .before .set-below .ensures) ∙ not-true _ (c .if2 .taken)))))
+    (λ c. let l = (c .before .before .before .lowest .ensures (c .before .before .before .before .loop-test .taken)) .small in search needs)
+    (λ c. (c .before .before .before .lowest .ensures (c .before .before .before .before .loop-test .taken)) .small)
+    (λ c. less-ones _ _ (c .before .before .before .lowest .ensures (c .before .before .before .before .loop-test .taken)))
+    (λ c. c .before .before .before .before .before .loop .inv ∙ in-next _ _ (c .before .before .before .lowest .ensures (c .before .before .before .before .loop-test .taken)) _ _ (ap not (sym (c .before .set-below .ensures) ∙ not-false _ (c .if2 .left))))
+    (λ c. each-holds _ _ _ _ _ _ _ _ (c .before .loop .inv ∙ in-none _ _ _ (c .loop-test .left))))
     (λ t. filler-below-lts.spec (
       flat-below-reads.Asked,
       flat-below-reads.Learnt,
@@ -119,11 +127,13 @@ pub +each-below+filler-below+set-below-spec : {M : Type 1} → statement M
     (λ c κs. omega arith)
     (λ c. sym (constants-missing _ _ _ _ _ _ _ (c .before .before .before .filler-set2 .result) (sym (c .before .lacks-constant .ensures) ∙ c .if3 .taken)) ∙ filler-sets _ _ _ _ _ _ _ _ _ _ (c .before .before .before .before .before .if1 .left) (c .before .before .before .before .filler-set .ensures) (c .before .before .before .filler-set2 .ensures))
     (λ c. omega arith)
-    (λ c κs. (omega arith, (c .before .before .before .before .before .before .before .before .before .pre .1 .0, sym (c .before .lacks-constant .ensures) ∙ c .if3 .left)))
+    (λ c κs. (omega arith, c .before .before .before .before .before .before .before .before .before .pre .1 .0))
     (λ c. c .each-below .ensures ∙ filler-sets _ _ _ _ _ _ _ _ _ _ (c .before .before .before .before .before .before .if1 .left) (c .before .before .before .before .before .filler-set .ensures) (c .before .before .before .before .filler-set2 .ensures)))
     λ t. set-below-lts.spec (
       bit-of-reads.Asked,
       bit-of-reads.Learnt,
+      lowest-reads.Asked,
+      lowest-reads.Learnt,
       filler-below-below t,
       filler-below.Post,
     )
@@ -138,19 +148,16 @@ pub +each-below+filler-below+set-below-spec : {M : Type 1} → statement M
     (λ c. omega arith)
     (λ c. omega arith)
     (λ c. omega arith)
-    (λ c. (omega arith, none-start _ _))
-    (λ c. omega arith)
-    (λ c. omega arith)
-    (λ c. sym (rows-at _ _ _ _ _ _ _ _ (c .before .before .before .before .before .if1 .left) ∙ none-rest _ _ _ _ (c .before .before .loop .inv .1) (c .if2 .taken)))
-    (λ c. omega arith)
-    (λ c κs. let own = c .before .before .before .before .before .before .before .before .before .before .before .pre .1 .0 .fits _ (c .before .before .before .loop-test .taken) in
+    (λ c. refl)
+    (λ c κs. search needs)
+    (λ c. sym (rows-at _ _ _ _ _ _ _ _ (c .before .before .before .before .before .before .if1 .left) ∙ c .before .before .before .loop .inv ∙ in-past _ _ (c .before .lowest .ensures (c .before .before .loop-test .taken)) _ _ (c .if2 .taken)))
+    (λ c. let h = c .before .before .before .before .before .before .before .before .before .before .before .pre .1 .0 .inner-many in let f = c .before .before .before .before .before .before .before .before .before .before .before .pre .1 .0 .few-atoms in omega arith)
+    (λ c κs. let own = c .before .before .before .before .before .before .before .before .before .before .before .pre .1 .0 .fits _ (let h : c .before .before .lowest .result < c .before .before .before .before .before .before .before .before .before .before .before .args .e = omega arith in h) in
     let asked = c .before .before .before .before .before .before .before .before .before .before .before .pre .1 .0 .fits _ (let h : c .before .before .before .before .before .before .before .before .before .before .before .args .j - c .before .before .before .before .before .before .before .before .before .before .before .args .c < c .before .before .before .before .before .before .before .before .before .before .before .args .e = omega arith in h) in
     (omega arith, (c .before .before .before .before .before .before .before .before .before .before .before .pre .1 .0, search (own, asked), search (own, asked))))
-    (λ c. sym (rows-at _ _ _ _ _ _ _ _ (c .before .before .before .before .before .before .before .before .before .if1 .left) ∙ some-passes _ _ _ _ (c .before .before .before .before .before .loop-test .taken) (c .before .before .before .if3 .taken) (sym (c .before .filler-below .ensures) ∙ c .if4 .taken)))
-    (λ c. omega arith)
-    (λ c. omega arith)
-    (λ c. (
-      omega arith,
-      ⊎-elim (λ w. none-fails _ _ _ (c .before .before .before .loop .inv .1) (sym (w .2 .ensures) ∙ w .3 .left)) (λ w. none-off _ _ _ (c .before .before .before .loop .inv .1) (w .left)) (c .if3 .came),
-    ))
-    (λ c. sym (rows-at _ _ _ _ _ _ _ _ (c .before .before .before .before .if1 .left) ∙ none-end _ _ _ _ (c .loop-test .left) (c .before .loop .inv .0) (c .before .loop .inv .1)))
+    (λ c. sym (rows-at _ _ _ _ _ _ _ _ (c .before .before .before .before .before .before .before .before .before .if1 .left) ∙ c .before .before .before .before .before .before .loop .inv ∙ in-hit _ _ (c .before .before .before .before .lowest .ensures (c .before .before .before .before .before .loop-test .taken)) _ _ (omega arith) (sym (c .before .filler-below .ensures) ∙ c .if3 .taken)))
+    (λ c. let l = (c .before .before .before .before .lowest .ensures (c .before .before .before .before .before .loop-test .taken)) .small in search needs)
+    (λ c. (c .before .before .before .before .lowest .ensures (c .before .before .before .before .before .loop-test .taken)) .small)
+    (λ c. less-ones _ _ (c .before .before .before .before .lowest .ensures (c .before .before .before .before .before .loop-test .taken)))
+    (λ c. c .before .before .before .before .before .before .loop .inv ∙ in-next _ _ (c .before .before .before .before .lowest .ensures (c .before .before .before .before .before .loop-test .taken)) _ _ (sym (c .before .filler-below .ensures) ∙ c .if3 .left))
+    (λ c. sym (rows-at _ _ _ _ _ _ _ _ (c .before .before .before .before .if1 .left) ∙ c .before .loop .inv ∙ in-none _ _ _ (c .loop-test .left)))

@@ -3,7 +3,7 @@ use borrow.Author.Needs.{needs}
 use lib.Pow.{pow-pos}
 use native.Mathlib.Omega.{arith}
 use Rattle.bounds.specs.WidthLaws.{power-fits}
-use Rattle.order.proofs.AskedLaws.{low-bits}
+use Rattle.order.proofs.LowestLaws.{low-bits}
 use Rattle.order.proofs.lacks_constant.Statement.{statement}
 use Rattle.order.proofs.lacks_constant.Tie as tie
 

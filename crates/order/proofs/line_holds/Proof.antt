@@ -31,5 +31,5 @@ line-holds-spec =
     returns
     lacks-constant-requires
     returns-2
-    (λ c κs. (asking _ _ _ _ _ _ _ _ (c .before .before .before .before .before .before .before .before .before .before .pre), sym (c .before .lacks-constant .ensures) ∙ c .if2 .left))
+    (λ c κs. asking _ _ _ _ _ _ _ _ (c .before .before .before .before .before .before .before .before .before .before .pre))
     returns-3)

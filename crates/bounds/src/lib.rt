@@ -9,6 +9,9 @@ pub type VariableMask = u32;
 // A mask with a bit for each restriction row, as wide as a set number, so that it can be held against one.
 pub type RowMask = SetNumber;
 
+// Where a byte of a readable table stands.
+pub type Place = u16;
+
 // How many nodes, and how many are allowed.
 pub type Count = u32;
 

@@ -1,6 +1,7 @@
 // A level of the walk: what the children of one live node share. Worked out once for a node, it leaves for each child two masks
 // to hold its newest set against, and the lines that only now are ready.
 use bounds::Count;
+use bounds::Place;
 use bounds::RowMask;
 use bounds::SetNumber;
 use bounds::VariableMask;
@@ -88,7 +89,7 @@ fn fresh_fails(
     table: &[u8],
     over: &[RowMask],
     inner: &[u8],
-    start: &[usize],
+    start: &[Place],
     fresh: &[u8],
     few: usize,
     counts: Counts,
@@ -103,7 +104,7 @@ fn fresh_fails(
     let mut i = 0;
     while i < few {
         let n = table::wide(fresh[i]);
-        if !order::line_holds(table, over, inner, set, c, e, v, start[n]) {
+        if !order::line_holds(table, over, inner, set, c, e, v, start[n] as usize) {
             return true;
         }
         i += 1;
@@ -117,7 +118,7 @@ fn child_is_dead(
     table: &[u8],
     over: &[RowMask],
     inner: &[u8],
-    start: &[usize],
+    start: &[Place],
     turning: SetNumber,
     leaving: SetNumber,
     fresh: &[u8],
@@ -158,7 +159,7 @@ pub fn sweep(
     table: &[u8],
     over: &[RowMask],
     inner: &[u8],
-    start: &[usize],
+    start: &[Place],
     level: Level,
     counts: Counts,
     sets: Sets,

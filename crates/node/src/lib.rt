@@ -5,6 +5,7 @@
 // atom. Marking these too, again and again, marks all that lead to the marks at first. Striking out, again and again, what depends on
 // nothing still standing leaves something exactly if the node is cyclic, and so dead. Else a variable is settled if it and all it leads to
 // are chosen; a line is ready if all its variables are settled; and the node is dead if a ready line fails.
+use bounds::Place;
 use bounds::RowMask;
 use bounds::SetNumber;
 use bounds::VariableMask;
@@ -51,7 +52,7 @@ pub struct Marks {
 // The mask of the variables of each line, and the byte where it begins.
 struct Lines {
     mask: [VariableMask; bounds::MAX_LINES],
-    start: [usize; bounds::MAX_LINES],
+    start: [Place; bounds::MAX_LINES],
 }
 
 // What is the same at every node: the rows for the line test, the mask of the variable inside each restriction, the mask of the
@@ -61,7 +62,7 @@ pub struct Prepared {
     pub inner: [u8; bounds::MAX_ATOMS],
     pub fill: [VariableMask; bounds::MAX_ATOMS],
     pub mask: [VariableMask; bounds::MAX_LINES],
-    pub start: [usize; bounds::MAX_LINES],
+    pub start: [Place; bounds::MAX_LINES],
 }
 
 // The counts of a readable table.
@@ -253,12 +254,12 @@ fn lines_of(table: &[u8], fill: &[VariableMask], m: usize) -> Lines
     ensures { λ r. ⌜ LineMasks (tableOf (now (table .entry))) m (r .mask) × LineStarts (now (table .entry)) m (r .start) ⌝ }
 {
     let mut mask: [VariableMask; bounds::MAX_LINES] = [0; bounds::MAX_LINES];
-    let mut start = [0; bounds::MAX_LINES];
+    let mut start: [Place; bounds::MAX_LINES] = [0; bounds::MAX_LINES];
     let mut at = table::line_start(table, 0);
     let mut n = 0;
     while n < m {
         mask[n] = line_mask(table, fill, at);
-        start[n] = at;
+        start[n] = at as Place;
         at = at + table::left_count(table, at) + 2;
         n += 1;
     }
@@ -308,7 +309,7 @@ pub fn first_failing(table: &[u8], counts: Counts, prepared: Prepared, sets: Set
     while n < m {
         let own = mask[n];
         if (own & settled) == own {
-            if !order::line_holds(table, &over, &inner, &set, c, e, v, start[n]) {
+            if !order::line_holds(table, &over, &inner, &set, c, e, v, start[n] as usize) {
                 return n;
             }
         }

@@ -3,6 +3,7 @@
 --   rows-length, lines-length == the bytes of rows, and of lines that are right
 --   begun-length   == bytes that are right so far are no longer than the longest table
 --   longest        == "The longest readable table has 698 bytes."
+--   place-fits     == so where a line begins is no larger
 --   longest-reached == one has them
 --   first-bytes    == THE FIRST 699 BYTES OF AN INPUT ARE READ AS THE WHOLE INPUT IS
 use mathlib.Core.Path.{_≡_, refl, sym, ap, subst, _∙_}
@@ -21,6 +22,8 @@ use Rattle.answer.specs.declared.Answer.{Answer}
 use Rattle.table.specs.declared.Header.{Header}
 use Rattle.table.specs.Reading.{byteAt, constantsPlace, rolesPlace, variablesPlace, restrictionsPlace, linesPlace, headerLength, headerOf, marked, versionOne, tableWith, Reading, refusal, readable, reading, isReadable}
 use Rattle.table.specs.Bytes.{writtenHeader, writtenRow, writtenEntry, writtenLine, bytesWith, countsOf, bytesOf, lineRight, Right, Fits, longestLine, longestLength, enoughLength, longestTable}
+use Rattle.table.specs.Layout.{lineStart}
+use Rattle.table.specs.LayoutLaws.{line-inside}
 use Rattle.table.specs.BytesLaws.{readable-is-written}
 use Rattle.table.specs.Refusal.{Slot, aRole, aFiller, aCount, anEntry, nothing, Begins, Over, RefusedAt, header-cut, wrong-mark, wrong-version, over-bound, over-left, ends-early, not-allowed, bytes-after}
 use Rattle.table.specs.RefusalLaws.{refused-means, means-refusal}
@@ -97,6 +100,9 @@ longest s ok = go (reading s) refl ok
     go : (r : Reading) → reading s ≡ r → T (isReadable r) → length s ≤ longestLength
     go (refusal why) e ok = absurd ok
     go (readable h t) e ok = let w = readable-is-written s h t e in subst (λ (l : List ℕ). length l ≤ longestLength) (sym (w .0)) (table-length t (w .1))
+
+pub place-fits : (s : List ℕ) → T (isReadable (reading s)) → (n at : ℕ) → n < headerOf s .m → at ≡ lineStart s n → at ≤ longestLength
+place-fits s ok n at h e = let i = line-inside s ok n at h e in let l = longest s ok in omega arith
 
 pub longest-reached : Fits longestTable × (length (bytesOf longestTable) ≡ longestLength)
 unfolding longestTable Fits bytesOf bytesWith countsOf writtenHeader writtenRow writtenLine writtenEntry flatMap everyOf lineRight

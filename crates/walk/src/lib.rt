@@ -1,6 +1,7 @@
 // The walk goes along the list of nodes. One node is looked at by itself (`look`); siblings are swept over together, since they share a
 // level (`advance`); a state is moved on by a share of nodes (`run`); and the walk is the root's state moved on by the budget (`walk`).
 use bounds::Count;
+use bounds::Place;
 use bounds::RowMask;
 use bounds::SetNumber;
 use bounds::VariableMask;
@@ -142,7 +143,7 @@ fn advance(
     table: &[u8],
     over: &[RowMask],
     inner: &[u8],
-    start: &[usize],
+    start: &[Place],
     level: Level,
     counts: Counts,
     sets: Sets,
@@ -192,7 +193,7 @@ fn run_below(
     inner: &[u8],
     fill: &[VariableMask],
     mask: &[VariableMask],
-    start: &[usize],
+    start: &[Place],
     counts: Counts,
     last: SetNumber,
     first: Sets,

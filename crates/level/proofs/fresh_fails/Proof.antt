@@ -4,6 +4,7 @@ use mathlib.Core.Bool.{false}
 use Prim.Native.Nat.{_-_, _≤_}
 use native.Mathlib.Omega.{arith}
 use Rattle.table.specs.Reading.{tableOf}
+use Rattle.table.specs.LengthLaws.{place-fits}
 use Rattle.level.specs.Level.{freshFails}
 use Rattle.level.specs.ListedLaws.{lines-start, lines-fail, lines-next, lines-whole}
 use borrow.Author.Needs.{needs}
@@ -25,6 +26,9 @@ mul-line-holds c = let h = c .before .before .before .before .before .before .be
 shared-slice-read-line-holds : tie.Need-shared-slice-read-line-holds Inv-loop μ-loop
 shared-slice-read-line-holds c = let h = c .before .before .before .before .before .before .before .before .before .before .before .pre .each _ _ (c .before .before .before .loop-test .taken) (c .before .wide .ensures) .inside in omega arith
 
+cast-line-holds : tie.Need-cast-line-holds Inv-loop μ-loop
+cast-line-holds c = let g = c .before .before .before .before .before .before .before .before .before .before .before .pre .each _ _ (c .before .before .before .loop-test .taken) (c .before .wide .ensures) in let h = place-fits _ (g .test .readable) _ _ (g .line) (g .begins) in search needs
+
 line-holds-requires : tie.Need-line-holds-requires Inv-loop μ-loop
 line-holds-requires c κs = c .before .before .before .before .before .before .before .before .before .before .before .pre .each _ _ (c .before .before .before .loop-test .taken) (c .before .wide .ensures) .test
 
@@ -38,5 +42,5 @@ pub fresh-fails-spec : {M : Type 1} → statement M
 fresh-fails-spec =
     tie.close
     (tie.spec Inv-loop μ-loop (λ c. (omega arith, lines-start _ _ _)) shared-slice-read-wide (λ c κs. search needs) mul-line-holds
-    shared-slice-read-line-holds line-holds-requires returns (λ c. search needs) (λ c. search needs) loop-again
+    shared-slice-read-line-holds cast-line-holds line-holds-requires returns (λ c. search needs) (λ c. search needs) loop-again
     (λ c. lines-whole _ _ _ _ _ (c .before .loop .inv .0) (c .loop-test .left) (c .before .loop .inv .1)))

@@ -7,6 +7,7 @@ use borrow.Author.Needs.{needs}
 use lib.ListN.{length}
 use Rattle.bounds.specs.Bounds.{maxVariables}
 use Rattle.table.specs.Reading.{tableOf}
+use Rattle.table.specs.LengthLaws.{place-fits}
 use Rattle.node.specs.Node.{NoneFails}
 use Rattle.node.specs.DeadLaws.{node-few, node-counts, node-depends, node-begins, node-line, fails-start, fails-next, line-open, line-tested, first-found, first-none}
 use Rattle.node.proofs.first_failing.Statement.{statement}
@@ -33,6 +34,9 @@ mul-line-holds c = let h = node-counts (c .before .before .before .before .befor
 array-read-line-holds : tie.Need-array-read-line-holds Inv-loop μ-loop
 array-read-line-holds c = let h = node-counts (c .before .before .before .before .before .before .before .before .before .before .before .before .before .before .before .before .pre .0) in let r = c .before .before .before .before .before .before .before .before .before .before .before .before .before .before .before .before .pre .1 .start-room in omega arith
 
+cast-line-holds : tie.Need-cast-line-holds Inv-loop μ-loop
+cast-line-holds c = let p = c .before .before .before .before .before .before .before .before .before .before .before .before .before .before .before .before .pre in let q = node-begins (p .0) (p .1) _ (c .before .before .before .before .loop-test .taken) in let h = place-fits _ (p .0 .readable) _ _ (q .0) (q .1) in search needs
+
 line-holds-requires : tie.Need-line-holds-requires Inv-loop μ-loop
 line-holds-requires c κs = node-line (c .before .before .before .before .before .before .before .before .before .before .before .before .before .before .before .before .pre .0) (c .before .before .before .before .before .before .before .before .before .before .before .before .before .before .before .before .pre .1) (c .before .before .before .before .before .before .before .before .before .before .before .before .before .before .before .before .pre .2) (let g = c .before .before .before .before .before .before .before .before .before .before .before .before .before .before .before .before .good .1 .1 .1 in search (needs, g)) _ (c .before .before .before .before .loop-test .taken)
 
@@ -49,5 +53,5 @@ pub first-failing-spec : {M : Type 1} → statement M
 first-failing-spec =
     tie.close
     (tie.spec Inv-loop μ-loop (λ c. search needs) (λ c. search needs) settled-mask-requires (λ c. (omega arith, fails-start _ _ _ _)) mul-own array-read-own
-    (λ c. search needs) (λ c. search needs) (λ c. search needs) mul-line-holds array-read-line-holds line-holds-requires returns (λ c. search needs)
+    (λ c. search needs) (λ c. search needs) (λ c. search needs) mul-line-holds array-read-line-holds cast-line-holds line-holds-requires returns (λ c. search needs)
     (λ c. search needs) loop-again returns-2)

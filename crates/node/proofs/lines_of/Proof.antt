@@ -8,6 +8,7 @@ use Rattle.bounds.specs.Bounds.{maxLines}
 use Rattle.table.specs.Layout.{lineStart}
 use Rattle.table.specs.Reading.{tableOf}
 use Rattle.table.specs.LayoutLaws.{layout}
+use Rattle.table.specs.LengthLaws.{place-fits}
 use Rattle.node.specs.Mask.{LineMasks, LineStarts}
 use Rattle.node.specs.MaskLaws.{each-none, each-set, each-whole}
 use Rattle.node.specs.LineLaws.{line-next}
@@ -29,6 +30,11 @@ loop-holds c = let h = layout _ (c .before .before .before .pre .0 .0) .few-line
 
 line-mask-requires : tie.Need-line-mask-requires Inv-loop μ-loop
 line-mask-requires c κs = let p = c .before .before .before .before .before .pre in let i = c .before .loop .inv in (p .0, (p .1 .0, record { number = c .before .loop .n; few = omega arith; begins = i .4 }))
+
+cast-start : tie.Need-cast-start Inv-loop μ-loop
+cast-start c =
+    let p = c .before .before .before .before .before .before .pre in let q = p .1 .1 in
+    let h = place-fits _ (p .0 .0) (c .before .before .loop .n) _ (omega arith) (c .before .before .loop .inv .4) in search needs
 
 left-count-requires : tie.Need-left-count-requires Inv-loop μ-loop
 left-count-requires c κs = let p = c .before .before .before .before .before .before .pre in let i = c .before .before .loop .inv in (p .0 .0, record { number = c .before .before .loop .n; few = omega arith; begins = i .4 })
@@ -57,5 +63,5 @@ returns c = let i = c .before .loop .inv in (each-whole (i .5) (i .0) (c .loop-t
 pub lines-of-spec : {M : Type 1} → statement M
 lines-of-spec =
     tie.close
-    (tie.spec Inv-loop μ-loop line-start-requires loop-holds line-mask-requires (λ c. search needs) (λ c. search needs) (λ c. search needs) (λ c. search needs)
+    (tie.spec Inv-loop μ-loop line-start-requires loop-holds line-mask-requires (λ c. search needs) (λ c. search needs) cast-start (λ c. search needs) (λ c. search needs)
     left-count-requires add-at add-at-2 (λ c. search needs) (λ c. search needs) loop-again returns)

@@ -1,11 +1,12 @@
 -- `node::settled_mask` meets its contract: what leads to a variable that is not chosen is not settled, all others are.
+use native.Mathlib.Omega.{arith}
 use borrow.Author.Needs.{needs}
 use Rattle.node.specs.ReadyLaws.{all-settled}
 use Rattle.node.proofs.settled_mask.Statement.{statement}
 use Rattle.node.proofs.settled_mask.Tie as tie
 
 first-mask-requires : tie.Need-first-mask-requires
-first-mask-requires c κs = c .before .before .pre .0 .few-variables
+first-mask-requires c κs = let h = c .before .before .pre .0 .few-variables in omega arith
 
 leading-to-requires : tie.Need-leading-to-requires
 leading-to-requires c κs = c .before .before .before .before .pre

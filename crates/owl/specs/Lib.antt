@@ -21,4 +21,8 @@ pub mod ElevenLaws
 pub mod ElevenText
 pub mod UniqueLaws
 pub mod TextCases
+pub mod Mention
+pub mod MentionLaws
+pub mod UndeclaredLaws
+pub mod MentionCases
 pub mod Theorem

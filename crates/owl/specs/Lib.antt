@@ -25,4 +25,5 @@ pub mod Mention
 pub mod MentionLaws
 pub mod UndeclaredLaws
 pub mod MentionCases
+pub mod DistinctLaws
 pub mod Theorem

@@ -52,7 +52,7 @@ sortAfter q k =
 ----------------------------------------------------------------------------------------------------
 -- The names of a text
 
-abbrev pub nameOf : ℕ → List ℕ → Name
+unfoldable pub nameOf : ℕ → List ℕ → Name
 nameOf k w = elim (eqb k 13) [ true ↦ short w | false ↦ full w ]
 
 unfoldable pub bytesAt : List ℕ → ℕ → List ℕ

@@ -112,7 +112,7 @@ mentionsAll [] = []
 mentionsAll (i ∷ items) = mentionsIn i (mentionsAll items)
 
 mutual
-  unfolding spoken heard isName sortAfter wordSorts
+  unfolding spoken heard isName sortAfter wordSorts nameOf
 
   class-spoken : (C : Class) (rest : List Token) → spoken 3 (written C rest) ≡ usesIn C (spoken 3 rest)
   class-spoken (named (short w)) rest = refl
@@ -130,7 +130,7 @@ two-spoken C D rest = class-spoken C (written D rest) ∙ ap (usesIn C) (class-s
 
 -- an item begins with a listed word
 item-spoken : (i : Item) (rest : List Token) (q : ℕ) → (p : ℕ) × (spoken q (writtenItem i rest) ≡ mentionsIn i (spoken p rest))
-unfolding spoken heard isName sortAfter wordSorts
+unfolding spoken heard isName sortAfter wordSorts nameOf
 item-spoken (declaration (class (short w))) rest q = (1, refl)
 item-spoken (declaration (class (full w))) rest q = (1, refl)
 item-spoken (declaration (objectProperty (short w))) rest q = (2, refl)

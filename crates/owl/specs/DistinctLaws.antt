@@ -1,5 +1,6 @@
 -- Laws of different ones: how many there are, and which place one has.
 --
+--   among-last  == what is among a list and one element more
 --   among-once  == what is kept is what was there, and what came
 --   once-append == two lists one after the other
 --   once-after  == one more element is kept if it is not among those before it
@@ -31,7 +32,7 @@ or-none true = refl
 or-none false = refl
 
 module _ {A : Type 0} (same : A → A → Bool) where
-  among-last : (x y : A) (l : List A) → isAmong same x (l ++ (y ∷ [])) ≡ (isAmong same x l || (same x y || false))
+  pub among-last : (x y : A) (l : List A) → isAmong same x (l ++ (y ∷ [])) ≡ (isAmong same x l || (same x y || false))
   unfolding isAmong anyOf
   among-last x y l = anyOf-append (same x) l (y ∷ [])
 

@@ -10,6 +10,8 @@
 --   before limit l         == the mentions of l up to the first that begins at byte `limit` or behind it
 --   group g l              == the names of the group that l declares
 --   different s g limit    == how many different names of the group are declared before byte `limit`
+--   adding s g does p k n  == a token of kind k at byte p, which does this to the name n, is the first declaration of a name of the group
+--   oneIf b                == 1 if b holds, else 0
 --   classNumber d n        == the number of n, among the open names or among the constants
 use mathlib.Core.Bool.{Bool, true, false, _&&_, _||_, not}
 use mathlib.Core.List.{List, [], _∷_}
@@ -19,7 +21,8 @@ use lib.ListN.{length}
 use Rattle.owl.specs.Once.{once}
 use Rattle.owl.specs.Tree.{Name}
 use Rattle.owl.specs.Naming.{sameName, isThing, isOpen, Names, constantNumber, openNumber}
-use Rattle.owl.specs.Mention.{Mention, Placed, placedFrom, placed, firstPlace}
+use Rattle.owl.specs.Grammar.{isName}
+use Rattle.owl.specs.Mention.{Mention, mentioned, Placed, placedFrom, placed, firstPlace}
 
 -- each token has a byte, so there are no more tokens than bytes
 unfoldable pub restOf : List ℕ → ℕ → ℕ → List Placed
@@ -50,6 +53,10 @@ group g (x ∷ l) = elim (inGroup g (x .mention)) [ true ↦ x .mention .name �
 
 unfoldable pub different : List ℕ → ℕ → ℕ → ℕ
 different s g limit = length (once sameName [] (group g (before limit (placed s))))
+
+-- a name of the group, at its first declaration
+abbrev pub adding : List ℕ → ℕ → ℕ → ℕ → ℕ → Name → Bool
+adding s g does p k n = isName k && (inGroup g (mentioned does n) && eqb (declaredAt s does n) p)
 
 unfoldable pub classNumber : Names → Name → ℕ
 classNumber d n = elim (isOpen n) [ true ↦ openNumber d n | false ↦ constantNumber d n ]

@@ -10,7 +10,7 @@ ghost use lib.ListN.{length};
 ghost use Rattle.owl.specs.Naming.{sameBytes, beginsWith, sameName, isThing, isOpen, roleNumber};
 ghost use Rattle.owl.specs.Grammar.{isName};
 ghost use Rattle.owl.specs.Mention.{sortAfter, nameOf, mentioned, namesIn, isKnown, undeclared};
-ghost use Rattle.owl_name.specs.Declared.{declares, declaredAt, inGroup, different, classNumber, oneIf};
+ghost use Rattle.owl_name.specs.Declared.{declares, declaredAt, inGroup, adding, different, classNumber, oneIf};
 
 fn wide(x: u8) -> usize
     ensures { λ r. ⌜ r ≡ x ⌝ }
@@ -194,4 +194,102 @@ pub fn first_undeclared(s: &[u8]) -> usize
         does = sort_after(does, kind);
         at = end;
     }
+}
+
+// Whether a declaration is one of a name of the group: 0 constants, 1 open names, 2 roles. owl:Thing is in none.
+fn in_group(group: u8, does: u8, k: u8, name: &[u8]) -> bool
+    ensures { λ r. ⌜ r ≡ inGroup group (mentioned does (nameOf k (now (name .entry)))) ⌝ }
+{
+    if group == 2 {
+        return does == 2;
+    }
+    if does != 1 {
+        return false;
+    }
+    if group == 1 {
+        return is_open(k, name);
+    }
+    if is_thing(k, name) {
+        return false;
+    }
+    !is_open(k, name)
+}
+
+// 1 if a token is the first declaration of a name of the group, else 0.
+fn adds(s: &[u8], group: u8, does: u8, place: usize, k: u8, token: &[u8]) -> usize
+    ensures { λ r. ⌜ (r ≡ oneIf (adding (now (s .entry)) group does place k (nameOf k (now (token .entry))))) × (r ≤ 1) ⌝ }
+{
+    if !is_name(k) {
+        return 0;
+    }
+    if !in_group(group, does, k, token) {
+        return 0;
+    }
+    if declared_at(s, does, k, token) == place {
+        return 1;
+    }
+    0
+}
+
+// How many different names of the group are declared before a byte.
+fn different(s: &[u8], group: u8, limit: usize) -> usize
+    ensures { λ r. ⌜ r ≡ different (now (s .entry)) group limit ⌝ }
+{
+    let mut at = 0;
+    let mut does = 0;
+    let mut count = 0;
+    loop {
+        let t = owl_token::token_at(s, at);
+        let kind = t.kind;
+        let place = t.place;
+        let end = t.end;
+        if kind == 0 {
+            return count;
+        }
+        if limit <= place {
+            return count;
+        }
+        count += adds(s, group, does, place, kind, &s[place..end]);
+        does = sort_after(does, kind);
+        at = end;
+    }
+}
+
+// The number of a class name: how many names of its group are declared before it.
+pub fn class_number(s: &[u8], k: u8, name: &[u8]) -> usize
+    requires { ⌜ isThing (nameOf k (now name)) ≡ false ⌝ }
+    ensures { λ r. ⌜ r ≡ classNumber (namesIn (now (s .entry))) (nameOf k (now (name .entry))) ⌝ }
+{
+    let first = declared_at(s, 1, k, name);
+    if is_open(k, name) {
+        return different(s, 1, first);
+    }
+    different(s, 0, first)
+}
+
+// The number of an object property.
+pub fn role_number(s: &[u8], k: u8, name: &[u8]) -> usize
+    ensures { λ r. ⌜ r ≡ roleNumber (namesIn (now (s .entry))) (nameOf k (now (name .entry))) ⌝ }
+{
+    let first = declared_at(s, 2, k, name);
+    different(s, 2, first)
+}
+
+// How many constants, open names and roles a text declares.
+pub fn constants(s: &[u8]) -> usize
+    ensures { λ r. ⌜ r ≡ length (namesIn (now (s .entry)) .constants) ⌝ }
+{
+    different(s, 0, s.len())
+}
+
+pub fn opens(s: &[u8]) -> usize
+    ensures { λ r. ⌜ r ≡ length (namesIn (now (s .entry)) .opens) ⌝ }
+{
+    different(s, 1, s.len())
+}
+
+pub fn roles(s: &[u8]) -> usize
+    ensures { λ r. ⌜ r ≡ length (namesIn (now (s .entry)) .roles) ⌝ }
+{
+    different(s, 2, s.len())
 }

@@ -8,8 +8,8 @@
 --   place-once  == what comes and is not there yet has the place behind those that are there
 use mathlib.Core.Path.{_≡_, refl, sym, ap, subst, _∙_}
 use mathlib.Core.Bool.{Bool, true, false, _||_}
-use mathlib.Core.List.{List, [], _∷_, _++_}
-use Prim.Native.Nat.{ℕ, suc, _+_}
+use mathlib.Core.List.{List, [], _∷_, _++_, append-nil}
+use Prim.Native.Nat.{suc, _+_}
 use native.Mathlib.Omega.{arith}
 use lib.Dec.{T}
 use lib.ListN.{length}
@@ -69,10 +69,6 @@ module _ {A : Type 0} (same : A → A → Bool) where
   once-extends : (l seen : List A) → (r : List A) × (once same seen l ≡ seen ++ r)
   unfolding once
   once-extends [] seen = ([], sym (append-nil seen))
-    where
-      append-nil : (l : List A) → l ++ [] ≡ l
-      append-nil [] = refl
-      append-nil (x ∷ l) = ap (λ (m : List A). x ∷ m) (append-nil l)
   once-extends (x ∷ l) seen = go (isAmong same x seen) (once-extends l seen) (once-extends l (seen ++ (x ∷ [])))
     where
       joined : (a b : List A) → (a ++ (x ∷ [])) ++ b ≡ a ++ (x ∷ b)

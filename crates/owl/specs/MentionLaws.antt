@@ -16,14 +16,14 @@ use lib.Dec.{T, eqb, ltb, ltb→lt}
 use lib.ListN.{length, take, drop}
 use borrow.Author.Tests.{ne-eqb}
 use Rattle.el.specs.Test.{everyOf}
-use Rattle.owl.specs.Tree.{Name, short, full, Class, named, intersectionOf, someValuesFrom, Classes, last, more, Axiom, subClassOf, equivalentClasses, class, objectProperty, Item, declaration, stated, Head, noName, oneName, twoNames, PrefixLine, File, axiomsOf, classesOf, propertiesOf}
-use Rattle.owl.specs.Naming.{sameName, isThing, isOpen, keep, Names, namesOf, classKnown, roleKnown, allIn, allOf, axiomKnown, allKnown}
+use Rattle.owl.specs.Tree.{Name, short, full, Class, named, intersectionOf, someValuesFrom, Classes, last, more, subClassOf, equivalentClasses, class, objectProperty, Item, declaration, stated, Head, noName, oneName, twoNames, PrefixLine, File, axiomsOf, classesOf, propertiesOf}
+use Rattle.owl.specs.Naming.{sameName, isThing, isOpen, keep, Names, namesOf, roleKnown, allIn, allOf, axiomKnown, allKnown}
 use Rattle.owl.specs.Token.{sizeOf, placeAt, kindAt, endAt}
 use Rattle.owl.specs.Written.{Token, sign, text, kind, tokenOf, tokenAt, tokensFrom, tokens, ‹left›, ‹right›, ‹Ontology›, written, writtens, writtenItem, writtenItems, writtenHead, writtenPrefixes, writtenFile, Says}
 use Rattle.owl.specs.Grammar.{isName}
 use Rattle.owl.specs.TextLaws.{kind-at}
 use Rattle.owl.specs.Once.{once}
-use Rattle.owl.specs.Mention.{wordSorts, sortAfter, nameOf, bytesAt, nameAt, Mention, Placed, mentioned, placedAt, placedFrom, placed, mentionsOf, declared, declarations, namesIn, isKnown}
+use Rattle.owl.specs.Mention.{wordSorts, sortAfter, nameOf, bytesAt, nameAt, Mention, Placed, mentioned, placedAt, placedFrom, placed, mentionsOf, declarations, namesIn, isKnown}
 
 ----------------------------------------------------------------------------------------------------
 -- The mentions of tokens

@@ -8,7 +8,7 @@
 --   undeclared-means == no use is undeclared exactly if each name of the file's axioms is known
 --   text-undeclared  == an accepted text says a file of which this holds
 --   undeclared-first == else the byte is that of a mention that is not known, and each one before it is known
-use mathlib.Core.Path.{_≡_, refl, sym, ap, subst, _∙_}
+use mathlib.Core.Path.{_≡_, refl, sym, ap, subst}
 use mathlib.Core.Bool.{Bool, true, false, _&&_, not}
 use mathlib.Core.Logic.{_↔_}
 use mathlib.Core.List.{List, [], _∷_, _++_}
@@ -23,7 +23,7 @@ use Rattle.el.specs.TestLaws.{and-make, and-left, and-right}
 use Rattle.owl.specs.Tree.{File}
 use Rattle.owl.specs.Naming.{allKnown}
 use Rattle.owl.specs.Token.{placeAt, kindAt, endAt}
-use Rattle.owl.specs.TokenLaws.{at-the-end, end-le}
+use Rattle.owl.specs.TokenLaws.{at-the-end}
 use Rattle.owl.specs.Written.{Says}
 use Rattle.owl.specs.Grammar.{isName, checked}
 use Rattle.owl.specs.TextLaws.{accepted-means}

@@ -6,16 +6,14 @@
 --   begins-on, begins-off, begins-short, begins-end == what a list of bytes begins with, byte by byte
 --   same-short, short-full, full-short, same-full, thing-.., open-.. == a name is told by its kind and its bytes
 --   declares-other, declares-name, none-there, name-there, declares-none == whether a token declares a name
-use mathlib.Core.Path.{_≡_, refl, sym, ap, ap₂, subst, _∙_}
+use mathlib.Core.Path.{_≡_, refl, sym, ap, ap₂, _∙_}
 use mathlib.Core.Bool.{Bool, true, false, _&&_, _||_, not}
 use mathlib.Core.List.{List, [], _∷_}
 use Prim.Native.Nat.{ℕ, suc, _+_, _≤_, _<_}
 use native.Mathlib.Omega.{arith}
-use lib.Dec.{eqb, eqb→eq, ltb}
+use lib.Dec.{eqb, ltb}
 use lib.ListN.{length, getD, drop, drop-of-length-le}
 use borrow.Author.Tests.{eq-eqb, ne-eqb, lt-ltb, le-ltb}
-use Rattle.el.specs.Test.{allBelow}
-use Rattle.el.specs.TestLaws.{allBelow-at}
 use Rattle.owl.specs.Tree.{Name, short, full}
 use Rattle.owl.specs.Naming.{sameBytes, beginsWith, sameName, thingBytes, openBytes, isThing, isOpen}
 use Rattle.owl.specs.TokenLaws.{drop-cons}

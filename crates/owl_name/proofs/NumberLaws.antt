@@ -6,29 +6,25 @@
 --   number-in                    == so in a text
 --   open-number, constant-number, role-number == the numbers of names
 --   constants-count, opens-count, roles-count == how many names there are
-use mathlib.Core.Path.{_≡_, refl, sym, ap, ap₂, subst, _∙_}
+use mathlib.Core.Path.{_≡_, refl, sym, ap, ap₂, _∙_}
 use mathlib.Core.Bool.{Bool, true, false, _&&_, _||_, not}
 use mathlib.Core.List.{List, [], _∷_, _++_}
-use Prim.Native.Nat.{ℕ, zero, suc, _+_, _-_, _≤_, _<_}
+use Prim.Native.Nat.{ℕ, suc, _+_, _<_}
 use native.Mathlib.Omega.{arith}
-use lib.Dec.{T, eqb, eqb→eq, eqb-refl, ltb}
-use lib.ListN.{length, take, drop}
-use borrow.Author.Tests.{eq-eqb, ne-eqb, lt-ltb, le-ltb}
+use lib.Dec.{T, eqb}
+use lib.ListN.{length}
+use borrow.Author.Tests.{le-ltb}
 use Rattle.el.specs.Test.{anyOf}
 use Rattle.el.specs.TestLaws.{is-true, true-is, and-left, and-right}
 use Rattle.owl.specs.Once.{isAmong, place, once}
-use Rattle.owl.specs.DistinctLaws.{among-last, once-after, place-none, place-once}
+use Rattle.owl.specs.DistinctLaws.{among-last, place-none, place-once}
 use Rattle.owl.specs.Tree.{Name}
-use Rattle.owl.specs.Naming.{sameName, isThing, isOpen, namesOf, constantNumber, openNumber, roleNumber}
-use Rattle.owl.specs.NamingLaws.{sameName-refl, sameName-means}
-use Rattle.owl.specs.Token.{placeAt, kindAt, endAt}
-use Rattle.owl.specs.TokenLaws.{end-le}
-use Rattle.owl.specs.Grammar.{isName}
-use Rattle.owl.specs.Mention.{sortAfter, nameOf, nameAt, Mention, Placed, mentioned, placedAt, placed, mentionsOf, namesIn, firstPlace}
-use Rattle.owl_name.specs.Declared.{restOf, declares, declaredAt, groupSort, groupTakes, inGroup, before, group, adding, different, classNumber, oneIf}
-use Rattle.owl_name.proofs.RestLaws.{rest-start, rest-end, turned, rest-turn, AtToken, token-name, token-order, token-goes}
+use Rattle.owl.specs.Naming.{sameName, isThing, isOpen, constantNumber, openNumber, roleNumber}
+use Rattle.owl.specs.NamingLaws.{sameName-means}
+use Rattle.owl.specs.Mention.{Mention, Placed, placed, namesIn, firstPlace}
+use Rattle.owl_name.specs.Declared.{declares, declaredAt, groupSort, groupTakes, inGroup, before, group, different, classNumber}
 use Rattle.owl_name.proofs.CountLaws.{before-take, before-all}
-use Rattle.owl_name.proofs.GroupLaws.{Rising, placed-rising, all-rising, first-between, among-group, constants-group, opens-group, roles-group}
+use Rattle.owl_name.proofs.GroupLaws.{Rising, all-rising, first-between, constants-group, opens-group, roles-group}
 
 -- a mention declares n
 declares-means : (g : ℕ) (n : Name) (m : Mention) → groupTakes g n ≡ true → declares (groupSort g) n m ≡ true → (inGroup g m ≡ true) × T (sameName n (m .name))

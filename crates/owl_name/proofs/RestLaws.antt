@@ -8,16 +8,15 @@
 --   token-name     == the name between its bytes
 --   first-start, first-end, first-hit, first-miss == the first mention that passes a test, token by token
 --   seek-start, judge-start == the two that are sought
-use mathlib.Core.Path.{_≡_, refl, sym, ap, ap₂, subst, _∙_}
+use mathlib.Core.Path.{_≡_, refl, sym, ap, ap₂, _∙_}
 use mathlib.Core.Bool.{Bool, true, false, _&&_, not}
 use mathlib.Core.List.{List, [], _∷_}
 use Prim.Native.Nat.{ℕ, zero, suc, _+_, _-_, _≤_, _<_}
 use native.Mathlib.Omega.{arith}
-use native.Mathlib.Decide.{decLt}
-use lib.Dec.{T, eqb, ltb, ltb→lt}
+use lib.Dec.{eqb, ltb}
 use lib.ListN.{length, take, drop}
 use borrow.Author.Tests.{eq-eqb, ne-eqb, eqb-false, lt-ltb}
-use Rattle.owl.specs.Tree.{Name, short, full}
+use Rattle.owl.specs.Tree.{Name}
 use Rattle.owl.specs.Token.{sizeOf, placeAt, kindAt, endAt}
 use Rattle.owl.specs.TokenLaws.{end-le, progress, more}
 use Rattle.owl.specs.Grammar.{isName}

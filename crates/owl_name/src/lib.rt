@@ -5,7 +5,6 @@
 ghost use mathlib.Core.Path.{_≡_};
 ghost use mathlib.Core.Bool.{true, false, _&&_, not};
 ghost use Prim.Native.Nat.{_<_, _≤_};
-ghost use lib.Dec.{eqb};
 ghost use lib.ListN.{length};
 ghost use Rattle.owl.specs.Naming.{sameBytes, beginsWith, sameName, isThing, isOpen, roleNumber};
 ghost use Rattle.owl.specs.Grammar.{isName};
@@ -210,7 +209,7 @@ fn in_group(group: u8, does: u8, k: u8, name: &[u8]) -> bool
         return is_open(k, name);
     }
     if is_thing(k, name) {
-        return false;
+        return false; // owl:Thing has no number
     }
     !is_open(k, name)
 }

@@ -3,7 +3,7 @@ use mathlib.Core.Path.{sym, _∙_}
 use native.Mathlib.Omega.{arith}
 use borrow.Author.Needs.{needs}
 use borrow.Author.Tests.{not-true, not-false}
-use Rattle.owl_name.proofs.CountLaws as laws
+use Rattle.owl_name.proofs.AddLaws as laws
 use Rattle.owl_name.proofs.adds.Statement.{statement}
 use Rattle.owl_name.proofs.adds.Tie as tie
 

@@ -1,7 +1,7 @@
 -- A role, an open name or a constant.
 use mathlib.Core.Path.{sym, _∙_}
 use borrow.Author.Needs.{needs}
-use Rattle.owl_name.proofs.CountLaws as laws
+use Rattle.owl_name.proofs.AddLaws as laws
 use Rattle.owl_name.proofs.in_group.Statement.{statement}
 use Rattle.owl_name.proofs.in_group.Tie as tie
 

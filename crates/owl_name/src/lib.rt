@@ -94,7 +94,7 @@ fn same_name(k: u8, a: &[u8], j: u8, b: &[u8]) -> bool
     same_bytes(a, b)
 }
 
-fn is_thing(k: u8, name: &[u8]) -> bool
+pub fn is_thing(k: u8, name: &[u8]) -> bool
     ensures { λ r. ⌜ r ≡ isThing (nameOf k (now (name .entry))) ⌝ }
 {
     if k != 13 {

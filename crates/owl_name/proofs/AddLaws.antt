@@ -2,18 +2,20 @@
 --
 --   in-roles, in-other, in-opens, in-thing, in-constants == a declaration is one of the group, or is not
 --   adds-none, adds-out, adds-first, adds-again          == a token adds a name to those counted, or does not
+--   own-name                                             == what a mention of the group does
 --   idle-out, in-does                                    == a name that does nothing is in no group
 use mathlib.Core.Path.{_≡_, refl, sym, ap, ap₂, subst, _∙_}
 use mathlib.Core.Bool.{Bool, true, false, _&&_, _||_, not}
 use mathlib.Core.List.{List}
 use Prim.Native.Nat.{ℕ, zero, suc, _<_}
 use native.Mathlib.Omega.{arith}
-use lib.Dec.{T, eqb}
+use lib.Dec.{T, eqb, eqb→eq}
 use borrow.Author.Tests.{eq-eqb, ne-eqb}
 use Rattle.owl.specs.Tree.{Name}
 use Rattle.owl.specs.Naming.{isThing, isOpen}
 use Rattle.owl.specs.Grammar.{isName}
-use Rattle.owl.specs.Mention.{mentioned}
+use Rattle.el.specs.TestLaws.{is-true, true-is, and-left, and-right}
+use Rattle.owl.specs.Mention.{Mention, mentioned}
 use Rattle.owl_name.specs.Declared.{declaredAt, groupSort, groupTakes, inGroup, adding, oneIf}
 
 pub in-roles : (g does : ℕ) (n : Name) → g ≡ 2 → eqb does 2 ≡ inGroup g (mentioned does n)
@@ -78,3 +80,12 @@ idle-out g n = go (eqb g 2)
 pub in-does : (g does : ℕ) (n : Name) → inGroup g (mentioned does n) ≡ true → 0 < does
 in-does g zero n e = absurd (subst T (sym e ∙ idle-out g n) tt)
 in-does g (suc does) n e = omega arith
+
+-- what a mention of the group does
+pub own-name : (g : ℕ) (m : Mention) → inGroup g m ≡ true → (m .sort ≡ groupSort g) × (groupTakes g (m .name) ≡ true)
+unfolding inGroup
+own-name g m e =
+    let t = true-is (eqb (m .sort) (groupSort g) && groupTakes g (m .name)) e in (
+      eqb→eq (m .sort) (groupSort g) (and-left (eqb (m .sort) (groupSort g)) (groupTakes g (m .name)) t),
+      is-true (groupTakes g (m .name)) (and-right (eqb (m .sort) (groupSort g)) (groupTakes g (m .name)) t),
+    )

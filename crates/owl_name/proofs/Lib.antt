@@ -1,3 +1,4 @@
+pub mod OrderedLaws
 pub mod NameLaws
 pub mod RestLaws
 pub mod GroupLaws

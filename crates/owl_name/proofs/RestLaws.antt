@@ -72,8 +72,12 @@ rest-end s at q e =
 abbrev pub turned : List ℕ → ℕ → ℕ → List Placed → List Placed
 turned s at q l = elim (isName (kindAt s at) && ltb 0 q) [ true ↦ placedAt s at q ∷ l | false ↦ l ]
 
+placed-turn : (s : List ℕ) (f at q : ℕ) → eqb (kindAt s at) 0 ≡ false → placedFrom s (suc f) at q ≡ turned s at q (placedFrom s f (endAt s at) (sortAfter q (kindAt s at)))
+unfolding placedFrom
+placed-turn s f at q e = ap (λ (b : Bool). elim b [ true ↦ [] | false ↦ turned s at q (placedFrom s f (endAt s at) (sortAfter q (kindAt s at))) ]) e
+
 pub rest-turn : (s : List ℕ) (at q : ℕ) → at ≤ length s → (kindAt s at ≡ 0 → ⊥) → restOf s at q ≡ turned s at q (restOf s (endAt s at) (sortAfter q (kindAt s at)))
-unfolding restOf placedFrom
+unfolding restOf
 rest-turn s at q h k =
     let e : eqb (kindAt s at) 0 ≡ false = ne-eqb (kindAt s at) 0 k in
     let d = goes s at h e in
@@ -81,8 +85,7 @@ rest-turn s at q h k =
     let far : endAt s at ≤ length s = d .1 in
     let u : length s < endAt s at + (length s - at) = omega arith in
     let v : length s < endAt s at + suc (length s - endAt s at) = omega arith in
-    let l : List Placed = placedFrom s (length s - at) (endAt s at) (sortAfter q (kindAt s at)) in
-    ap (λ (b : Bool). elim b [ true ↦ [] | false ↦ turned s at q l ]) e
+    placed-turn s (length s - at) at q e
     ∙ ap (turned s at q) (placed-fuel s (length s - at) (suc (length s - endAt s at)) (endAt s at) (sortAfter q (kindAt s at)) far u v)
 
 ----------------------------------------------------------------------------------------------------

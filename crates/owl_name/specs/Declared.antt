@@ -7,8 +7,8 @@
 --   groupSort g            == what a declaration of a name of the group does
 --   groupTakes g n         == such a name is one of the group; owl:Thing is in none
 --   inGroup g m            == the mention m declares a name of the group
---   before limit l         == the mentions of l up to the first that begins at byte `limit` or behind it
---   group g l              == the names of the group that l declares
+--   inside g l             == the mentions of l that do
+--   placeIn x, nameIn x    == a mention's byte and name
 --   different s g limit    == how many different names of the group are declared before byte `limit`
 --   adding s g does p k n  == a token of kind k at byte p, which does this to the name n, is the first declaration of a name of the group
 --   oneIf b                == 1 if b holds, else 0
@@ -16,12 +16,12 @@
 use mathlib.Core.Bool.{Bool, true, false, _&&_, _||_, not}
 use mathlib.Core.List.{List, [], _∷_}
 use Prim.Native.Nat.{ℕ, suc, _-_}
-use lib.Dec.{eqb, ltb}
+use lib.Dec.{eqb}
 use lib.ListN.{length}
-use Rattle.owl.specs.Once.{once}
 use Rattle.owl.specs.Tree.{Name}
 use Rattle.owl.specs.Naming.{sameName, isThing, isOpen, Names, constantNumber, openNumber}
 use Rattle.owl.specs.Grammar.{isName}
+use Rattle.owl_name.specs.Ordered.{differentBefore}
 use Rattle.owl.specs.Mention.{Mention, mentioned, Placed, placedFrom, placed, firstPlace}
 
 -- each token has a byte, so there are no more tokens than bytes
@@ -43,16 +43,18 @@ groupTakes g n = elim (eqb g 2) [ true ↦ true | false ↦ elim (eqb g 1) [ tru
 unfoldable pub inGroup : ℕ → Mention → Bool
 inGroup g m = eqb (m .sort) (groupSort g) && groupTakes g (m .name)
 
-unfoldable pub before : ℕ → List Placed → List Placed
-before limit [] = []
-before limit (x ∷ l) = elim (ltb (x .place) limit) [ true ↦ x ∷ before limit l | false ↦ [] ]
+unfoldable pub inside : ℕ → List Placed → List Placed
+inside g [] = []
+inside g (x ∷ l) = elim (inGroup g (x .mention)) [ true ↦ x ∷ inside g l | false ↦ inside g l ]
 
-unfoldable pub group : ℕ → List Placed → List Name
-group g [] = []
-group g (x ∷ l) = elim (inGroup g (x .mention)) [ true ↦ x .mention .name ∷ group g l | false ↦ group g l ]
+abbrev pub placeIn : Placed → ℕ
+placeIn x = x .place
+
+abbrev pub nameIn : Placed → Name
+nameIn x = x .mention .name
 
 unfoldable pub different : List ℕ → ℕ → ℕ → ℕ
-different s g limit = length (once sameName [] (group g (before limit (placed s))))
+different s g limit = differentBefore placeIn nameIn sameName limit (inside g (placed s))
 
 -- a name of the group, at its first declaration
 abbrev pub adding : List ℕ → ℕ → ℕ → ℕ → ℕ → Name → Bool

@@ -24,7 +24,7 @@ returns : tie.Need-returns Inv-loop μ-loop
 returns c = laws.counting-end _ _ _ _ _ _ _ _ _ (c .before .before .loop .inv) (c .before .token-at .ensures .0, c .before .token-at .ensures .1, c .before .token-at .ensures .2) (c .if1 .taken)
 
 returns-2 : tie.Need-returns-2 Inv-loop μ-loop
-returns-2 c = laws.counting-limit _ _ _ _ _ _ _ _ _ (c .before .before .before .loop .inv) (c .before .before .token-at .ensures .0, c .before .before .token-at .ensures .1, c .before .before .token-at .ensures .2) (c .before .if1 .left) (c .if2 .taken)
+returns-2 c = laws.counting-limit _ _ _ _ _ _ _ _ _ (c .before .before .before .loop .inv) (c .before .before .token-at .ensures .0, c .before .before .token-at .ensures .1, c .before .before .token-at .ensures .2) (c .if2 .taken)
 
 sub-adds : tie.Need-sub-adds Inv-loop μ-loop
 sub-adds c = rests.token-order _ _ _ _ _ (c .before .before .token-at .ensures .0, c .before .before .token-at .ensures .1, c .before .before .token-at .ensures .2)
@@ -33,13 +33,13 @@ part-adds-start : tie.Need-part-adds-start Inv-loop μ-loop
 part-adds-start c = rests.token-order _ _ _ _ _ (c .before .before .token-at .ensures .0, c .before .before .token-at .ensures .1, c .before .before .token-at .ensures .2)
 
 add-count : tie.Need-add-count Inv-loop μ-loop
-add-count c = let few = c .before .before .before .before .before .loop .inv .few in let goes = rests.token-goes _ _ _ _ _ (c .before .before .before .before .token-at .ensures .0, c .before .before .before .before .token-at .ensures .1, c .before .before .before .before .token-at .ensures .2) (c .before .before .before .before .before .loop .inv .within) (c .before .before .before .if1 .left) in omega arith
+add-count c = let few = laws.counting-few _ _ _ _ _ _ (c .before .before .before .before .before .loop .inv) in let goes = rests.token-goes _ _ _ _ _ (c .before .before .before .before .token-at .ensures .0, c .before .before .before .before .token-at .ensures .1, c .before .before .before .before .token-at .ensures .2) (c .before .before .before .before .before .loop .inv .within) (c .before .before .before .if1 .left) in omega arith
 
 loop-less : tie.Need-loop-less Inv-loop μ-loop
 loop-less c = let goes = rests.token-goes _ _ _ _ _ (c .before .before .before .before .before .token-at .ensures .0, c .before .before .before .before .before .token-at .ensures .1, c .before .before .before .before .before .token-at .ensures .2) (c .before .before .before .before .before .before .loop .inv .within) (c .before .before .before .before .if1 .left) in omega arith
 
 loop-again : tie.Need-loop-again Inv-loop μ-loop
-loop-again c = laws.counting-turn _ _ _ _ _ _ _ _ _ _ _ (c .before .before .before .before .before .before .loop .inv) (c .before .before .before .before .before .token-at .ensures .0, c .before .before .before .before .before .token-at .ensures .1, c .before .before .before .before .before .token-at .ensures .2) (c .before .before .before .before .if1 .left) (c .before .before .before .if2 .left) (c .sort-after .ensures) (c .before .adds .ensures .0)
+loop-again c = laws.counting-turn _ _ _ _ _ _ _ _ _ _ _ (c .before .before .before .before .before .before .loop .inv) (c .before .before .before .before .before .token-at .ensures .0, c .before .before .before .before .before .token-at .ensures .1, c .before .before .before .before .before .token-at .ensures .2) (c .before .before .before .before .before .token-at .ensures .3) (c .before .before .before .before .if1 .left) (c .before .before .before .if2 .left) (c .sort-after .ensures) (c .before .adds .ensures .0)
 
 pub different-spec : {M : Type 1} → statement M
 different-spec =

@@ -4,18 +4,21 @@
 --   among-once  == what is kept is what was there, and what came
 --   once-append == two lists one after the other
 --   once-after  == one more element is kept if it is not among those before it
+--   once-map, place-map == where two are the same exactly if their images are, the images are kept, and placed, alike
+--   place-eq    == two that are there have one place exactly if they are the same
 --   place-none  == what is not among a list has the place behind it
 --   place-once  == what comes and is not there yet has the place behind those that are there
-use mathlib.Core.Path.{_≡_, refl, sym, ap, subst, _∙_}
+use mathlib.Core.Path.{_≡_, refl, sym, ap, ap₂, subst, _∙_}
 use mathlib.Core.Bool.{Bool, true, false, _||_}
-use mathlib.Core.List.{List, [], _∷_, _++_, append-nil}
-use Prim.Native.Nat.{suc, _+_}
+use mathlib.Core.List.{List, [], _∷_, _++_, append-nil, map, map-append}
+use Prim.Native.Nat.{ℕ, suc, _+_}
 use native.Mathlib.Omega.{arith}
-use lib.Dec.{T}
-use lib.ListN.{length}
-use Rattle.el.specs.Test.{anyOf}
-use Rattle.el.specs.TestLaws.{is-true, anyOf-append}
+use lib.Dec.{T, eqb, eqb→eq, eqb-refl}
+use lib.ListN.{length, getD}
+use Rattle.el.specs.Test.{anyOf, everyOf}
+use Rattle.el.specs.TestLaws.{is-true, same-test, and-make, and-left, and-right, anyOf-append}
 use Rattle.owl.specs.Once.{isAmong, place, once}
+use Rattle.owl.specs.OnceLaws.{place-at, every-join}
 
 absorb : (a b c : Bool) → (T b → T a) → (a || c) ≡ (a || (b || c))
 absorb true b c f = refl
@@ -106,3 +109,38 @@ module _ {A : Type 0} (same : A → A → Bool) where
         go : (b : Bool) → length {A = A} (elim b [ true ↦ once same [] l | false ↦ once same [] l ++ (y ∷ []) ]) ≡ length (once same [] l) + elim b [ true ↦ 0 | false ↦ 1 ]
         go true = let z : length (once same [] l) ≡ length (once same [] l) + 0 = omega arith in z
         go false = longer (once same [] l)
+
+module _ {A B : Type 0} (same : A → A → Bool) (same′ : B → B → Bool) (f : A → B) (p : A → Bool) (alike : (x y : A) → T (p x) → T (p y) → same′ (f x) (f y) ≡ same x y) where
+  among-map : (x : A) (l : List A) → T (p x) → T (everyOf p l) → isAmong same′ (f x) (map f l) ≡ isAmong same x l
+  unfolding isAmong anyOf everyOf
+  among-map x [] h k = refl
+  among-map x (y ∷ l) h k = ap₂ _||_ (alike x y h (and-left (p y) (everyOf p l) k)) (among-map x l h (and-right (p y) (everyOf p l) k))
+
+  pub place-map : (x : A) (l : List A) → T (p x) → T (everyOf p l) → place same′ (f x) (map f l) ≡ place same x l
+  unfolding place everyOf
+  place-map x [] h k = refl
+  place-map x (y ∷ l) h k =
+      ap₂ (λ (b : Bool) (n : ℕ). elim b [ true ↦ 0 | false ↦ suc n ]) (alike x y h (and-left (p y) (everyOf p l) k)) (place-map x l h (and-right (p y) (everyOf p l) k))
+
+  pub once-map : (l seen : List A) → T (everyOf p seen) → T (everyOf p l) → once same′ (map f seen) (map f l) ≡ map f (once same seen l)
+  unfolding once everyOf
+  once-map [] seen h k = refl
+  once-map (x ∷ l) seen h k =
+      let px = and-left (p x) (everyOf p l) k in
+      let pl = and-right (p x) (everyOf p l) k in
+      ap (λ (b : Bool). elim b [ true ↦ once same′ (map f seen) (map f l) | false ↦ once same′ (map f seen ++ (f x ∷ [])) (map f l) ]) (among-map x seen px h)
+      ∙ go (isAmong same x seen) (once-map l seen h pl)
+      (ap (λ (m : List B). once same′ m (map f l)) (sym (map-append f seen (x ∷ []))) ∙ once-map l (seen ++ (x ∷ [])) (every-join p seen (x ∷ []) h (and-make (p x) true px tt)) pl)
+    where
+      go : (b : Bool) → once same′ (map f seen) (map f l) ≡ map f (once same seen l) → once same′ (map f seen ++ (f x ∷ [])) (map f l) ≡ map f (once same (seen ++ (x ∷ [])) l) →
+          elim b [ true ↦ once same′ (map f seen) (map f l) | false ↦ once same′ (map f seen ++ (f x ∷ [])) (map f l) ] ≡ map f (elim b [ true ↦ once same seen l | false ↦ once same (seen ++ (x ∷ [])) l ])
+      go true h k = h
+      go false h k = k
+
+module _ {A : Type 0} (same : A → A → Bool) (same-refl : (x : A) → T (same x x)) (same-means : (x y : A) → T (same x y) → x ≡ y) where
+  pub place-eq : (x y : A) (l : List A) → T (isAmong same x l) → T (isAmong same y l) → eqb (place same x l) (place same y l) ≡ same x y
+  place-eq x y l h k =
+      same-test (eqb (place same x l) (place same y l)) (same x y)
+      (λ t. subst (λ (z : A). T (same x z))
+      (sym (same-means y (getD l (place same y l) x) (place-at same y l x k) ∙ ap (λ (i : ℕ). getD l i x) (sym (eqb→eq (place same x l) (place same y l) t)))) (place-at same x l x h))
+      (λ t. subst (λ (z : A). T (eqb (place same x l) (place same z l))) (same-means x y t) (eqb-refl (place same x l)))

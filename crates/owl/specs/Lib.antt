@@ -26,4 +26,7 @@ pub mod MentionLaws
 pub mod UndeclaredLaws
 pub mod MentionCases
 pub mod DistinctLaws
+pub mod Restriction
+pub mod RestrictionLaws
+pub mod RowLaws
 pub mod Theorem

@@ -2,7 +2,7 @@
 --
 --   wordSorts           == what the first name after a listed word does, by the word's kind
 --   sortAfter q k       == what the next name does after a token of kind k, where q is what it would have done before that token
---   nameOf k w          == the name of kind k with the bytes w
+--   nameBy k w          == the name of kind k with the bytes w
 --   bytesAt s at        == the bytes of the next token after byte `at`
 --   nameAt s at         == the name that this token is
 --   Mention             == a name and what it does there
@@ -52,14 +52,14 @@ sortAfter q k =
 ----------------------------------------------------------------------------------------------------
 -- The names of a text
 
-unfoldable pub nameOf : ℕ → List ℕ → Name
-nameOf k w = elim (eqb k 13) [ true ↦ short w | false ↦ full w ]
+unfoldable pub nameBy : ℕ → List ℕ → Name
+nameBy k w = elim (eqb k 13) [ true ↦ short w | false ↦ full w ]
 
 unfoldable pub bytesAt : List ℕ → ℕ → List ℕ
 bytesAt s at = take (endAt s at - placeAt s at) (drop (placeAt s at) s)
 
 abbrev pub nameAt : List ℕ → ℕ → Name
-nameAt s at = nameOf (kindAt s at) (bytesAt s at)
+nameAt s at = nameBy (kindAt s at) (bytesAt s at)
 
 pub record Mention : Type 0 where
   pub sort : ℕ

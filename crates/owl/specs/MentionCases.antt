@@ -13,7 +13,7 @@ use Rattle.owl.specs.Tree.{classesOf, propertiesOf}
 use Rattle.owl.specs.Naming.{sameBytes, beginsWith, thingBytes, openBytes, keep, namesOf, classKnown, roleKnown}
 use Rattle.owl.specs.Token.{isPlain, byteClass, betweens, between, blank, runLength, shapes, shaped, shape, prefixWord, ontologyWord, declarationWord, classWord, propertyWord, subClassWord, equivalentWord, intersectionWord, someValuesWord, keywords, wordKind, runKind, upToClose, opensAfter, fullKind, fullSize, markKinds, kindOf, sizeOf, placeAt, kindAt, endAt}
 use Rattle.owl.specs.Grammar.{insides, inside, isName, beginsClass, beginsItem, unlisted, takes, takesOr, takesMore, expect, mayEnd, check, checked}
-use Rattle.owl.specs.Mention.{wordSorts, sortAfter, nameOf, bytesAt, placedFrom, placed, mentionsOf, declarations, namesIn, isKnown, firstPlace, undeclared}
+use Rattle.owl.specs.Mention.{wordSorts, sortAfter, nameBy, bytesAt, placedFrom, placed, mentionsOf, declarations, namesIn, isKnown, firstPlace, undeclared}
 
 record Case : Type 0 where
   text : List ℕ
@@ -42,5 +42,5 @@ abbrev passes : Case → Bool
 passes c = eqb (checked (c .text) .number) 0 && eqb (undeclared (c .text)) (c .place)
 
 pub cases-hold : T (everyOf passes cases)
-unfolding everyOf anyOf isAmong place once classesOf propertiesOf sameBytes beginsWith thingBytes openBytes keep namesOf classKnown roleKnown isPlain byteClass betweens between blank runLength shapes shaped shape prefixWord ontologyWord declarationWord classWord propertyWord subClassWord equivalentWord intersectionWord someValuesWord keywords wordKind runKind upToClose opensAfter fullKind fullSize markKinds kindOf sizeOf placeAt kindAt endAt insides inside isName beginsClass beginsItem unlisted takes takesOr takesMore expect mayEnd check checked wordSorts sortAfter nameOf bytesAt placedFrom placed mentionsOf declarations namesIn isKnown firstPlace undeclared
+unfolding everyOf anyOf isAmong place once classesOf propertiesOf sameBytes beginsWith thingBytes openBytes keep namesOf classKnown roleKnown isPlain byteClass betweens between blank runLength shapes shaped shape prefixWord ontologyWord declarationWord classWord propertyWord subClassWord equivalentWord intersectionWord someValuesWord keywords wordKind runKind upToClose opensAfter fullKind fullSize markKinds kindOf sizeOf placeAt kindAt endAt insides inside isName beginsClass beginsItem unlisted takes takesOr takesMore expect mayEnd check checked wordSorts sortAfter nameBy bytesAt placedFrom placed mentionsOf declarations namesIn isKnown firstPlace undeclared
 cases-hold = tt

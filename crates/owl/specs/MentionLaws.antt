@@ -1,6 +1,7 @@
 -- What a text mentions is what its file mentions.
 --
 --   spoken q ts   == the mentions of the tokens ts, where q is what the next name does
+--   name-at       == a token that is a name is the name there
 --   placed-spoken == those of a text's tokens are the text's
 --   usesIn C ms   == the uses of a class expression in the order of the text, before ms; so `usesOf`, `mentionsIn` for several, for an item
 --   mentionsAll   == the mentions of items
@@ -8,7 +9,7 @@
 --   names-said    == the names that a text declares are those of the file that it says
 --   known-said    == each mention of a text is known exactly if each name of its file's axioms is
 use mathlib.Core.Path.{_≡_, refl, sym, ap, ap₂, subst, _∙_}
-use mathlib.Core.Bool.{Bool, true, false, _&&_, _||_, not, and-assoc}
+use mathlib.Core.Bool.{Bool, true, false, _&&_, _||_, not, and-assoc, true≢false}
 use mathlib.Core.List.{List, [], _∷_}
 use Prim.Native.Nat.{ℕ, zero, suc, _+_, _-_, _<_}
 use native.Mathlib.Omega.{arith}
@@ -23,33 +24,30 @@ use Rattle.owl.specs.Written.{Token, sign, text, kind, tokenOf, tokenAt,
 use Rattle.owl.specs.Grammar.{isName}
 use Rattle.owl.specs.TextLaws.{kind-at}
 use Rattle.owl.specs.Once.{once}
-use Rattle.owl.specs.Mention.{wordSorts, sortAfter, nameOf, bytesAt, nameAt, Mention, Placed, mentioned, placedAt, placedFrom, placed, mentionsOf, declarations, namesIn, isKnown}
+use Rattle.owl.specs.Mention.{wordSorts, sortAfter, nameBy, bytesAt, nameAt, Mention, Placed, mentioned, placedAt, placedFrom, placed, mentionsOf, declarations, namesIn, isKnown}
 
 ----------------------------------------------------------------------------------------------------
 -- The mentions of tokens
 
-abbrev bytesOf : Token → List ℕ
+abbrev pub bytesOf : Token → List ℕ
 bytesOf (sign k) = []
 bytesOf (text k w) = w
 
 heard : ℕ → ℕ → List ℕ → List Mention → List Mention
-heard q k w ms = elim (isName k && ltb 0 q) [ true ↦ mentioned q (nameOf k w) ∷ ms | false ↦ ms ]
+heard q k w ms = elim (isName k && ltb 0 q) [ true ↦ mentioned q (nameBy k w) ∷ ms | false ↦ ms ]
 
 spoken : ℕ → List Token → List Mention
 spoken q [] = []
 spoken q (t ∷ ts) = heard q (kind t) (bytesOf t) (spoken (sortAfter q (kind t)) ts)
 
--- the bytes of a token that is no name are not asked for
-token-heard : (q k : ℕ) (w : List ℕ) (ms : List Mention) → heard q k (bytesOf (tokenOf k w)) ms ≡ heard q k w ms
-unfolding heard tokenOf isName
-token-heard q k w ms = go (ltb k 13) refl
+name-bytes : (k : ℕ) (w : List ℕ) → isName k ≡ true → bytesOf (tokenOf k w) ≡ w
+unfolding tokenOf isName
+name-bytes k w n = go (ltb k 13) refl
   where
-    go : (b : Bool) → ltb k 13 ≡ b → heard q k (bytesOf (elim b [ true ↦ sign k | false ↦ text k w ])) ms ≡ heard q k w ms
+    go : (b : Bool) → ltb k 13 ≡ b → bytesOf (elim b [ true ↦ sign k | false ↦ text k w ]) ≡ w
     go true e =
         let h : k < 13 = ltb→lt k 13 (subst T (sym e) tt) in
-        let no : isName k ≡ false = ap₂ _||_ (ne-eqb k 13 (omega arith)) (ne-eqb k 14 (omega arith)) in
-        ap (λ (b : Bool). elim (b && ltb 0 q) [ true ↦ mentioned q (nameOf k []) ∷ ms | false ↦ ms ]) no
-        ∙ sym (ap (λ (b : Bool). elim (b && ltb 0 q) [ true ↦ mentioned q (nameOf k w) ∷ ms | false ↦ ms ]) no)
+        absurd (true≢false (sym n ∙ ap₂ _||_ (ne-eqb k 13 (omega arith)) (ne-eqb k 14 (omega arith))))
     go false e = refl
 
 bytes-at : (s : List ℕ) (at : ℕ) → bytesAt s at ≡ take (sizeOf (drop (placeAt s at) s)) (drop (placeAt s at) s)
@@ -58,12 +56,24 @@ bytes-at s at =
     ap (λ (n : ℕ). take n (drop (placeAt s at) s))
     (let z : placeAt s at + sizeOf (drop (placeAt s at) s) - placeAt s at ≡ sizeOf (drop (placeAt s at) s) = omega arith in z)
 
-heard-at : (s : List ℕ) (at q : ℕ) (ms : List Mention) → heard q (kindAt s at) (bytesAt s at) ms ≡ heard q (kind (tokenAt s at)) (bytesOf (tokenAt s at)) ms
+-- a token that is a name is the name there
+pub name-at : (s : List ℕ) (at : ℕ) → isName (kindAt s at) ≡ true → nameAt s at ≡ nameBy (kind (tokenAt s at)) (bytesOf (tokenAt s at))
 unfolding tokenAt
+name-at s at n =
+    let w : List ℕ = take (sizeOf (drop (placeAt s at) s)) (drop (placeAt s at) s) in
+    ap₂ nameBy (sym (kind-at s at)) (bytes-at s at ∙ sym (name-bytes (kindAt s at) w n))
+
+heard-at : (s : List ℕ) (at q : ℕ) (ms : List Mention) → heard q (kindAt s at) (bytesAt s at) ms ≡ heard q (kind (tokenAt s at)) (bytesOf (tokenAt s at)) ms
+unfolding heard
 heard-at s at q ms =
-    ap (λ (w : List ℕ). heard q (kindAt s at) w ms) (bytes-at s at)
-    ∙ sym (token-heard q (kindAt s at) (take (sizeOf (drop (placeAt s at) s)) (drop (placeAt s at) s)) ms)
-    ∙ ap (λ (k : ℕ). heard q k (bytesOf (tokenAt s at)) ms) (sym (kind-at s at))
+    go (isName (kindAt s at)) refl
+    ∙ ap (λ (k : ℕ). elim (isName k && ltb 0 q) [ true ↦ mentioned q (nameBy (kind (tokenAt s at)) (bytesOf (tokenAt s at))) ∷ ms | false ↦ ms ]) (sym (kind-at s at))
+  where
+    go : (b : Bool) → isName (kindAt s at) ≡ b →
+        _≡_ {A = List Mention} (elim (b && ltb 0 q) [ true ↦ mentioned q (nameAt s at) ∷ ms | false ↦ ms ])
+        (elim (b && ltb 0 q) [ true ↦ mentioned q (nameBy (kind (tokenAt s at)) (bytesOf (tokenAt s at))) ∷ ms | false ↦ ms ])
+    go true n = ap (λ (m : Name). elim (ltb 0 q) [ true ↦ mentioned q m ∷ ms | false ↦ ms ]) (name-at s at n)
+    go false n = refl
 
 placed-spoken : (s : List ℕ) (f at q : ℕ) → mentionsOf (placedFrom s f at q) ≡ spoken q (tokensFrom s f at)
 unfolding placedFrom mentionsOf tokensFrom spoken heard
@@ -112,7 +122,7 @@ mentionsAll [] = []
 mentionsAll (i ∷ items) = mentionsIn i (mentionsAll items)
 
 mutual
-  unfolding spoken heard isName sortAfter wordSorts nameOf
+  unfolding spoken heard isName sortAfter wordSorts nameBy
 
   class-spoken : (C : Class) (rest : List Token) → spoken 3 (written C rest) ≡ usesIn C (spoken 3 rest)
   class-spoken (named (short w)) rest = refl
@@ -130,7 +140,7 @@ two-spoken C D rest = class-spoken C (written D rest) ∙ ap (usesIn C) (class-s
 
 -- an item begins with a listed word
 item-spoken : (i : Item) (rest : List Token) (q : ℕ) → (p : ℕ) × (spoken q (writtenItem i rest) ≡ mentionsIn i (spoken p rest))
-unfolding spoken heard isName sortAfter wordSorts nameOf
+unfolding spoken heard isName sortAfter wordSorts nameBy
 item-spoken (declaration (class (short w))) rest q = (1, refl)
 item-spoken (declaration (class (full w))) rest q = (1, refl)
 item-spoken (declaration (objectProperty (short w))) rest q = (2, refl)

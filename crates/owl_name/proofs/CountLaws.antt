@@ -16,7 +16,7 @@ use Rattle.owl.specs.Naming.{sameName}
 use Rattle.owl.specs.NamingLaws.{sameName-refl, sameName-means}
 use Rattle.owl.specs.Token.{placeAt, kindAt, endAt}
 use Rattle.owl.specs.Grammar.{isName}
-use Rattle.owl.specs.Mention.{sortAfter, nameOf, nameAt, Placed, mentioned, placedAt, placed, firstPlace}
+use Rattle.owl.specs.Mention.{sortAfter, nameBy, nameAt, Placed, mentioned, placedAt, placed, firstPlace}
 use Rattle.owl_name.specs.Declared.{restOf, declares, declaredAt, inGroup, inside, placeIn, nameIn, adding, different, oneIf}
 use Rattle.owl_name.proofs.RestLaws.{rest-start, rest-end, rest-turn, AtToken, token-name, token-goes}
 use Rattle.owl_name.proofs.AddLaws.{idle-out, own-name}
@@ -103,10 +103,10 @@ turn s g limit at does count c n l = go (isName (kindAt s at)) does (rest-turn s
         (e ∙ ap (λ (b : Bool). elim b [ true ↦ placedAt s at (suc q) ∷ restOf s (endAt s at) next | false ↦ restOf s (endAt s at) next ]) (lt-ltb 0 (suc q) (omega arith))) l goes
 
 pub counting-turn : (s : List ℕ) (g limit at does count k p e next a : ℕ) → Counting s g limit at does count → AtToken s at k p e → e ≤ length s → (k ≡ 0 → ⊥) → p < limit → next ≡ sortAfter does k →
-    a ≡ oneIf (adding s g does p k (nameOf k (take (e - p) (drop p s)))) → Counting s g limit e next (count + a)
+    a ≡ oneIf (adding s g does p k (nameBy k (take (e - p) (drop p s)))) → Counting s g limit e next (count + a)
 counting-turn s g limit at does count k p e next a c t w n l d f =
-    let same : oneIf (adding s g does p k (nameOf k (take (e - p) (drop p s)))) ≡ oneIf (adding s g does (placeAt s at) (kindAt s at) (nameAt s at)) =
-    ap (λ (j : ℕ). oneIf (adding s g does p j (nameOf k (take (e - p) (drop p s))))) (t .0)
+    let same : oneIf (adding s g does p k (nameBy k (take (e - p) (drop p s)))) ≡ oneIf (adding s g does (placeAt s at) (kindAt s at) (nameAt s at)) =
+    ap (λ (j : ℕ). oneIf (adding s g does p j (nameBy k (take (e - p) (drop p s))))) (t .0)
     ∙ ap₂ (λ (j : ℕ) (m : Name). oneIf (adding s g does j (kindAt s at) m)) (t .1) (token-name s at k p e t)
     in record {
       within = w;

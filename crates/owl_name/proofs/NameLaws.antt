@@ -18,7 +18,7 @@ use Rattle.owl.specs.Tree.{Name, short, full}
 use Rattle.owl.specs.Naming.{sameBytes, beginsWith, sameName, thingBytes, openBytes, isThing, isOpen}
 use Rattle.owl.specs.TokenLaws.{drop-cons}
 use Rattle.owl.specs.Grammar.{isName}
-use Rattle.owl.specs.Mention.{wordSorts, sortAfter, nameOf, mentioned}
+use Rattle.owl.specs.Mention.{wordSorts, sortAfter, nameBy, mentioned}
 use Rattle.owl_name.specs.Declared.{declares}
 
 ----------------------------------------------------------------------------------------------------
@@ -119,36 +119,36 @@ begins-end w b i h = ap (λ (l : List ℕ). beginsWith l (drop i b)) (drop-of-le
 ----------------------------------------------------------------------------------------------------
 -- Names
 
-short-name : (k : ℕ) (w : List ℕ) → k ≡ 13 → nameOf k w ≡ short w
-unfolding nameOf
+short-name : (k : ℕ) (w : List ℕ) → k ≡ 13 → nameBy k w ≡ short w
+unfolding nameBy
 short-name k w e = ap (λ (b : Bool). elim b [ true ↦ short w | false ↦ full w ]) (eq-eqb k 13 e)
 
-full-name : (k : ℕ) (w : List ℕ) → (k ≡ 13 → ⊥) → nameOf k w ≡ full w
-unfolding nameOf
+full-name : (k : ℕ) (w : List ℕ) → (k ≡ 13 → ⊥) → nameBy k w ≡ full w
+unfolding nameBy
 full-name k w h = ap (λ (b : Bool). elim b [ true ↦ short w | false ↦ full w ]) (ne-eqb k 13 h)
 
-pub same-short : (k j : ℕ) (a b : List ℕ) → k ≡ 13 → j ≡ 13 → sameBytes a b ≡ sameName (nameOf k a) (nameOf j b)
+pub same-short : (k j : ℕ) (a b : List ℕ) → k ≡ 13 → j ≡ 13 → sameBytes a b ≡ sameName (nameBy k a) (nameBy j b)
 same-short k j a b e d = sym (ap₂ sameName (short-name k a e) (short-name j b d))
 
-pub short-full : (k j : ℕ) (a b : List ℕ) → k ≡ 13 → (j ≡ 13 → ⊥) → false ≡ sameName (nameOf k a) (nameOf j b)
+pub short-full : (k j : ℕ) (a b : List ℕ) → k ≡ 13 → (j ≡ 13 → ⊥) → false ≡ sameName (nameBy k a) (nameBy j b)
 short-full k j a b e d = sym (ap₂ sameName (short-name k a e) (full-name j b d))
 
-pub full-short : (k j : ℕ) (a b : List ℕ) → (k ≡ 13 → ⊥) → j ≡ 13 → false ≡ sameName (nameOf k a) (nameOf j b)
+pub full-short : (k j : ℕ) (a b : List ℕ) → (k ≡ 13 → ⊥) → j ≡ 13 → false ≡ sameName (nameBy k a) (nameBy j b)
 full-short k j a b e d = sym (ap₂ sameName (full-name k a e) (short-name j b d))
 
-pub same-full : (k j : ℕ) (a b : List ℕ) → (k ≡ 13 → ⊥) → (j ≡ 13 → ⊥) → sameBytes a b ≡ sameName (nameOf k a) (nameOf j b)
+pub same-full : (k j : ℕ) (a b : List ℕ) → (k ≡ 13 → ⊥) → (j ≡ 13 → ⊥) → sameBytes a b ≡ sameName (nameBy k a) (nameBy j b)
 same-full k j a b e d = sym (ap₂ sameName (full-name k a e) (full-name j b d))
 
-pub thing-short : (k : ℕ) (w : List ℕ) → k ≡ 13 → sameBytes w thingBytes ≡ isThing (nameOf k w)
+pub thing-short : (k : ℕ) (w : List ℕ) → k ≡ 13 → sameBytes w thingBytes ≡ isThing (nameBy k w)
 thing-short k w e = sym (ap isThing (short-name k w e))
 
-pub thing-full : (k : ℕ) (w : List ℕ) → (k ≡ 13 → ⊥) → false ≡ isThing (nameOf k w)
+pub thing-full : (k : ℕ) (w : List ℕ) → (k ≡ 13 → ⊥) → false ≡ isThing (nameBy k w)
 thing-full k w e = sym (ap isThing (full-name k w e))
 
-pub open-short : (k : ℕ) (w : List ℕ) → k ≡ 13 → beginsWith openBytes w ≡ isOpen (nameOf k w)
+pub open-short : (k : ℕ) (w : List ℕ) → k ≡ 13 → beginsWith openBytes w ≡ isOpen (nameBy k w)
 open-short k w e = sym (ap isOpen (short-name k w e))
 
-pub open-full : (k : ℕ) (w : List ℕ) → (k ≡ 13 → ⊥) → false ≡ isOpen (nameOf k w)
+pub open-full : (k : ℕ) (w : List ℕ) → (k ≡ 13 → ⊥) → false ≡ isOpen (nameBy k w)
 open-full k w e = sym (ap isOpen (full-name k w e))
 
 ----------------------------------------------------------------------------------------------------

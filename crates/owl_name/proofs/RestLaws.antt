@@ -20,7 +20,7 @@ use Rattle.owl.specs.Tree.{Name}
 use Rattle.owl.specs.Token.{sizeOf, placeAt, kindAt, endAt}
 use Rattle.owl.specs.TokenLaws.{end-le, progress, more}
 use Rattle.owl.specs.Grammar.{isName}
-use Rattle.owl.specs.Mention.{sortAfter, nameOf, bytesAt, nameAt, Mention, Placed, mentioned, placedAt, placedFrom, placed, namesIn, isKnown, firstPlace, undeclared}
+use Rattle.owl.specs.Mention.{sortAfter, nameBy, bytesAt, nameAt, Mention, Placed, mentioned, placedAt, placedFrom, placed, namesIn, isKnown, firstPlace, undeclared}
 use Rattle.owl_name.specs.Declared.{restOf, declares, declaredAt}
 
 ----------------------------------------------------------------------------------------------------
@@ -98,8 +98,8 @@ pub token-bytes : (s : List ℕ) (at k p e : ℕ) → AtToken s at k p e → tak
 unfolding bytesAt
 token-bytes s at k p e t = ap₂ (λ (a b : ℕ). take (b - a) (drop a s)) (t .1) (t .2)
 
-pub token-name : (s : List ℕ) (at k p e : ℕ) → AtToken s at k p e → nameOf k (take (e - p) (drop p s)) ≡ nameAt s at
-token-name s at k p e t = ap₂ (λ (a : ℕ) (w : List ℕ). nameOf a w) (t .0) (token-bytes s at k p e t)
+pub token-name : (s : List ℕ) (at k p e : ℕ) → AtToken s at k p e → nameBy k (take (e - p) (drop p s)) ≡ nameAt s at
+token-name s at k p e t = ap₂ (λ (a : ℕ) (w : List ℕ). nameBy a w) (t .0) (token-bytes s at k p e t)
 
 pub token-order : (s : List ℕ) (at k p e : ℕ) → AtToken s at k p e → p ≤ e
 unfolding endAt
@@ -136,19 +136,19 @@ module _ (p : Mention → Bool) (none : (n : Name) → p (mentioned 0 n) ≡ fal
           ap (λ (z : Bool). firstPlace p end (elim z [ true ↦ placedAt s at (suc q) ∷ l | false ↦ l ])) (lt-ltb 0 (suc q) (omega arith))
           ∙ ap (λ (b : Bool). elim b [ true ↦ placeAt s at | false ↦ firstPlace p end l ]) d
 
-  asked : (s : List ℕ) (at q k pl e : ℕ) → AtToken s at k pl e → (b : Bool) → (isName k && p (mentioned q (nameOf k (take (e - pl) (drop pl s))))) ≡ b →
+  asked : (s : List ℕ) (at q k pl e : ℕ) → AtToken s at k pl e → (b : Bool) → (isName k && p (mentioned q (nameBy k (take (e - pl) (drop pl s))))) ≡ b →
       (isName (kindAt s at) && p (mentioned q (nameAt s at))) ≡ b
   asked s at q k pl e t b d = ap₂ (λ (k : ℕ) (n : Name). isName k && p (mentioned q n)) (sym (t .0)) (sym (token-name s at k pl e t)) ∙ d
 
   pub first-hit : (s : List ℕ) (at q k pl e : ℕ) → AtToken s at k pl e → at ≤ length s → (k ≡ 0 → ⊥) →
-      (isName k && p (mentioned q (nameOf k (take (e - pl) (drop pl s))))) ≡ true → firstPlace p end (restOf s at q) ≡ pl
+      (isName k && p (mentioned q (nameBy k (take (e - pl) (drop pl s))))) ≡ true → firstPlace p end (restOf s at q) ≡ pl
   first-hit s at q k pl e t h n d =
       ap (firstPlace p end) (rest-turn s at q h (λ z. n (t .0 ∙ z)))
       ∙ first-turn s at q (restOf s (endAt s at) (sortAfter q (kindAt s at))) true (asked s at q k pl e t true d)
       ∙ sym (t .1)
 
   pub first-miss : (s : List ℕ) (at q k pl e r : ℕ) → AtToken s at k pl e → at ≤ length s → (k ≡ 0 → ⊥) →
-      (isName k && p (mentioned q (nameOf k (take (e - pl) (drop pl s))))) ≡ false → r ≡ sortAfter q k → firstPlace p end (restOf s at q) ≡ firstPlace p end (restOf s e r)
+      (isName k && p (mentioned q (nameBy k (take (e - pl) (drop pl s))))) ≡ false → r ≡ sortAfter q k → firstPlace p end (restOf s at q) ≡ firstPlace p end (restOf s e r)
   first-miss s at q k pl e r t h n d c =
       ap (firstPlace p end) (rest-turn s at q h (λ z. n (t .0 ∙ z)))
       ∙ first-turn s at q (restOf s (endAt s at) (sortAfter q (kindAt s at))) false (asked s at q k pl e t false d)

@@ -8,7 +8,7 @@ ghost use Prim.Native.Nat.{_<_, _≤_};
 ghost use lib.ListN.{length};
 ghost use Rattle.owl.specs.Naming.{sameBytes, beginsWith, sameName, isThing, isOpen, roleNumber};
 ghost use Rattle.owl.specs.Grammar.{isName};
-ghost use Rattle.owl.specs.Mention.{sortAfter, nameOf, mentioned, namesIn, isKnown, undeclared};
+ghost use Rattle.owl.specs.Mention.{sortAfter, nameBy, mentioned, namesIn, isKnown, undeclared};
 ghost use Rattle.owl_name.specs.Declared.{declares, declaredAt, inGroup, adding, different, classNumber, oneIf};
 
 fn wide(x: u8) -> usize
@@ -80,7 +80,7 @@ fn begins_with(w: &[u8], b: &[u8]) -> bool
 
 // Names are compared as they are written: a short one and a full one are two.
 fn same_name(k: u8, a: &[u8], j: u8, b: &[u8]) -> bool
-    ensures { λ r. ⌜ r ≡ sameName (nameOf k (now (a .entry))) (nameOf j (now (b .entry))) ⌝ }
+    ensures { λ r. ⌜ r ≡ sameName (nameBy k (now (a .entry))) (nameBy j (now (b .entry))) ⌝ }
 {
     if k == 13 {
         if j == 13 {
@@ -95,7 +95,7 @@ fn same_name(k: u8, a: &[u8], j: u8, b: &[u8]) -> bool
 }
 
 pub fn is_thing(k: u8, name: &[u8]) -> bool
-    ensures { λ r. ⌜ r ≡ isThing (nameOf k (now (name .entry))) ⌝ }
+    ensures { λ r. ⌜ r ≡ isThing (nameBy k (now (name .entry))) ⌝ }
 {
     if k != 13 {
         return false;
@@ -104,7 +104,7 @@ pub fn is_thing(k: u8, name: &[u8]) -> bool
 }
 
 pub fn is_open(k: u8, name: &[u8]) -> bool
-    ensures { λ r. ⌜ r ≡ isOpen (nameOf k (now (name .entry))) ⌝ }
+    ensures { λ r. ⌜ r ≡ isOpen (nameBy k (now (name .entry))) ⌝ }
 {
     if k != 13 {
         return false;
@@ -114,7 +114,7 @@ pub fn is_open(k: u8, name: &[u8]) -> bool
 
 // Whether a token declares this name; `does` is what a name there does.
 fn declares(sort: u8, k: u8, name: &[u8], does: u8, j: u8, token: &[u8]) -> bool
-    ensures { λ r. ⌜ r ≡ (isName j && declares sort (nameOf k (now (name .entry))) (mentioned does (nameOf j (now (token .entry))))) ⌝ }
+    ensures { λ r. ⌜ r ≡ (isName j && declares sort (nameBy k (now (name .entry))) (mentioned does (nameBy j (now (token .entry))))) ⌝ }
 {
     if does != sort {
         return false;
@@ -128,7 +128,7 @@ fn declares(sort: u8, k: u8, name: &[u8], does: u8, j: u8, token: &[u8]) -> bool
 // The byte of the first declaration of a name, as a class or as an object property; the text's length if there is none.
 pub fn declared_at(s: &[u8], sort: u8, k: u8, name: &[u8]) -> usize
     requires { ⌜ 0 < sort ⌝ }
-    ensures { λ r. ⌜ (r ≡ declaredAt (now (s .entry)) sort (nameOf k (now (name .entry)))) × (r ≤ length (now (s .entry))) ⌝ }
+    ensures { λ r. ⌜ (r ≡ declaredAt (now (s .entry)) sort (nameBy k (now (name .entry)))) × (r ≤ length (now (s .entry))) ⌝ }
 {
     let mut at = 0;
     let mut does = 0;
@@ -150,7 +150,7 @@ pub fn declared_at(s: &[u8], sort: u8, k: u8, name: &[u8]) -> usize
 
 // Whether a name does no more than it may: the name that it uses is declared.
 fn is_known(s: &[u8], does: u8, k: u8, name: &[u8]) -> bool
-    ensures { λ r. ⌜ r ≡ isKnown (namesIn (now (s .entry))) (mentioned does (nameOf k (now (name .entry)))) ⌝ }
+    ensures { λ r. ⌜ r ≡ isKnown (namesIn (now (s .entry))) (mentioned does (nameBy k (now (name .entry)))) ⌝ }
 {
     if does == 3 {
         if is_thing(k, name) {
@@ -165,7 +165,7 @@ fn is_known(s: &[u8], does: u8, k: u8, name: &[u8]) -> bool
 }
 
 fn is_undeclared(s: &[u8], does: u8, k: u8, token: &[u8]) -> bool
-    ensures { λ r. ⌜ r ≡ (isName k && not (isKnown (namesIn (now (s .entry))) (mentioned does (nameOf k (now (token .entry)))))) ⌝ }
+    ensures { λ r. ⌜ r ≡ (isName k && not (isKnown (namesIn (now (s .entry))) (mentioned does (nameBy k (now (token .entry)))))) ⌝ }
 {
     if is_name(k) {
         return !is_known(s, does, k, token);
@@ -197,7 +197,7 @@ pub fn first_undeclared(s: &[u8]) -> usize
 
 // Whether a declaration is one of a name of the group: 0 constants, 1 open names, 2 roles. owl:Thing is in none.
 fn in_group(group: u8, does: u8, k: u8, name: &[u8]) -> bool
-    ensures { λ r. ⌜ r ≡ inGroup group (mentioned does (nameOf k (now (name .entry)))) ⌝ }
+    ensures { λ r. ⌜ r ≡ inGroup group (mentioned does (nameBy k (now (name .entry)))) ⌝ }
 {
     if group == 2 {
         return does == 2;
@@ -216,7 +216,7 @@ fn in_group(group: u8, does: u8, k: u8, name: &[u8]) -> bool
 
 // 1 if a token is the first declaration of a name of the group, else 0.
 fn adds(s: &[u8], group: u8, does: u8, place: usize, k: u8, token: &[u8]) -> usize
-    ensures { λ r. ⌜ (r ≡ oneIf (adding (now (s .entry)) group does place k (nameOf k (now (token .entry))))) × (r ≤ 1) ⌝ }
+    ensures { λ r. ⌜ (r ≡ oneIf (adding (now (s .entry)) group does place k (nameBy k (now (token .entry))))) × (r ≤ 1) ⌝ }
 {
     if !is_name(k) {
         return 0;
@@ -256,8 +256,8 @@ fn different(s: &[u8], group: u8, limit: usize) -> usize
 
 // The number of a class name: how many names of its group are declared before it.
 pub fn class_number(s: &[u8], k: u8, name: &[u8]) -> usize
-    requires { ⌜ isThing (nameOf k (now name)) ≡ false ⌝ }
-    ensures { λ r. ⌜ r ≡ classNumber (namesIn (now (s .entry))) (nameOf k (now (name .entry))) ⌝ }
+    requires { ⌜ isThing (nameBy k (now name)) ≡ false ⌝ }
+    ensures { λ r. ⌜ r ≡ classNumber (namesIn (now (s .entry))) (nameBy k (now (name .entry))) ⌝ }
 {
     let first = declared_at(s, 1, k, name);
     if is_open(k, name) {
@@ -268,7 +268,7 @@ pub fn class_number(s: &[u8], k: u8, name: &[u8]) -> usize
 
 // The number of an object property.
 pub fn role_number(s: &[u8], k: u8, name: &[u8]) -> usize
-    ensures { λ r. ⌜ r ≡ roleNumber (namesIn (now (s .entry))) (nameOf k (now (name .entry))) ⌝ }
+    ensures { λ r. ⌜ r ≡ roleNumber (namesIn (now (s .entry))) (nameBy k (now (name .entry))) ⌝ }
 {
     let first = declared_at(s, 2, k, name);
     different(s, 2, first)

@@ -12,7 +12,7 @@ use native.Mathlib.Omega.{arith}
 use lib.ListN.{length, getD}
 use borrow.Author.Tests.{eq-eqb, ne-eqb}
 use Rattle.owl.specs.Naming.{Names, isThing, roleNumber}
-use Rattle.owl.specs.Mention.{nameOf}
+use Rattle.owl.specs.Mention.{nameBy}
 use Rattle.owl_name.specs.Declared.{classNumber}
 use Rattle.owl_name_c.specs.C.{kindBy, classOrNone}
 
@@ -29,19 +29,19 @@ pub kind-short : (w : List ℕ) → (getD w 0 0 ≡ 60 → ⊥) → 13 ≡ kindB
 unfolding kindBy
 kind-short w h = sym (ap (λ (b : Bool). elim b [ true ↦ 14 | false ↦ 13 ]) (ne-eqb (getD w 0 0) 60 h))
 
-pub class-none : (d : Names) (k : ℕ) (w : List ℕ) → k ≡ kindBy w → isThing (nameOf k w) ≡ true → 0 ≡ classOrNone d (nameOf (kindBy w) w)
+pub class-none : (d : Names) (k : ℕ) (w : List ℕ) → k ≡ kindBy w → isThing (nameBy k w) ≡ true → 0 ≡ classOrNone d (nameBy (kindBy w) w)
 unfolding classOrNone
 class-none d k w e t =
-    sym (ap (λ (b : Bool). elim b [ true ↦ 0 | false ↦ classNumber d (nameOf (kindBy w) w) ]) (ap (λ (j : ℕ). isThing (nameOf j w)) (sym e) ∙ t))
+    sym (ap (λ (b : Bool). elim b [ true ↦ 0 | false ↦ classNumber d (nameBy (kindBy w) w) ]) (ap (λ (j : ℕ). isThing (nameBy j w)) (sym e) ∙ t))
 
-pub class-some : (d : Names) (k : ℕ) (w : List ℕ) → k ≡ kindBy w → isThing (nameOf k w) ≡ false → classNumber d (nameOf k w) ≡ classOrNone d (nameOf (kindBy w) w)
+pub class-some : (d : Names) (k : ℕ) (w : List ℕ) → k ≡ kindBy w → isThing (nameBy k w) ≡ false → classNumber d (nameBy k w) ≡ classOrNone d (nameBy (kindBy w) w)
 unfolding classOrNone
 class-some d k w e t =
-    ap (λ (j : ℕ). classNumber d (nameOf j w)) e
-    ∙ sym (ap (λ (b : Bool). elim b [ true ↦ 0 | false ↦ classNumber d (nameOf (kindBy w) w) ]) (ap (λ (j : ℕ). isThing (nameOf j w)) (sym e) ∙ t))
+    ap (λ (j : ℕ). classNumber d (nameBy j w)) e
+    ∙ sym (ap (λ (b : Bool). elim b [ true ↦ 0 | false ↦ classNumber d (nameBy (kindBy w) w) ]) (ap (λ (j : ℕ). isThing (nameBy j w)) (sym e) ∙ t))
 
-pub role-some : (d : Names) (k : ℕ) (w : List ℕ) → k ≡ kindBy w → roleNumber d (nameOf k w) ≡ roleNumber d (nameOf (kindBy w) w)
-role-some d k w e = ap (λ (j : ℕ). roleNumber d (nameOf j w)) e
+pub role-some : (d : Names) (k : ℕ) (w : List ℕ) → k ≡ kindBy w → roleNumber d (nameBy k w) ≡ roleNumber d (nameBy (kindBy w) w)
+role-some d k w e = ap (λ (j : ℕ). roleNumber d (nameBy j w)) e
 
 pub three : (a b c x y z : ℕ) → a ≡ x → b ≡ y → c ≡ z → a ∷ b ∷ c ∷ [] ≡ x ∷ y ∷ z ∷ []
 three a b c x y z d e f = ap₂ (λ (i j : ℕ). i ∷ j ∷ c ∷ []) d e ∙ ap (λ (k : ℕ). x ∷ y ∷ k ∷ []) f

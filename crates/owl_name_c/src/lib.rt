@@ -1,7 +1,7 @@
 // The names of a text, for C, for the runs. A lent slice passes as a pointer and then a length, a lent array as a pointer.
 ghost use mathlib.Core.Path.{_≡_};
 ghost use Rattle.owl.specs.Naming.{roleNumber};
-ghost use Rattle.owl.specs.Mention.{nameOf, namesIn, undeclared};
+ghost use Rattle.owl.specs.Mention.{nameBy, namesIn, undeclared};
 ghost use Rattle.owl_name_c.specs.C.{countsOf, kindBy, classOrNone};
 
 // Returns the byte of the first name that is not declared; the counts of constants, open names and roles are in the lent array.
@@ -34,7 +34,7 @@ fn kind_by(name: &[u8]) -> u8
 // The number of a class name; 0 for owl:Thing, which has none.
 #[no_mangle]
 pub extern "C" fn makrothel_owl_class(text: &[u8], name: &[u8]) -> u64
-    ensures { λ r. ⌜ r ≡ classOrNone (namesIn (now (text .entry))) (nameOf (kindBy (now (name .entry))) (now (name .entry))) ⌝ }
+    ensures { λ r. ⌜ r ≡ classOrNone (namesIn (now (text .entry))) (nameBy (kindBy (now (name .entry))) (now (name .entry))) ⌝ }
 {
     let kind = kind_by(name);
     if owl_name::is_thing(kind, name) {
@@ -46,7 +46,7 @@ pub extern "C" fn makrothel_owl_class(text: &[u8], name: &[u8]) -> u64
 // The number of an object property.
 #[no_mangle]
 pub extern "C" fn makrothel_owl_role(text: &[u8], name: &[u8]) -> u64
-    ensures { λ r. ⌜ r ≡ roleNumber (namesIn (now (text .entry))) (nameOf (kindBy (now (name .entry))) (now (name .entry))) ⌝ }
+    ensures { λ r. ⌜ r ≡ roleNumber (namesIn (now (text .entry))) (nameBy (kindBy (now (name .entry))) (now (name .entry))) ⌝ }
 {
     owl_name::role_number(text, kind_by(name), name) as u64
 }

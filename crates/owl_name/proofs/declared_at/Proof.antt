@@ -4,7 +4,7 @@ use Prim.Native.Nat.{_-_, _≤_}
 use native.Mathlib.Omega.{arith}
 use lib.ListN.{length}
 use borrow.Author.Needs.{needs}
-use Rattle.owl.specs.Mention.{nameOf, firstPlace}
+use Rattle.owl.specs.Mention.{nameBy, firstPlace}
 use Rattle.owl_name.specs.Declared.{restOf, declares, declaredAt}
 use Rattle.owl_name.proofs.NameLaws as names
 use Rattle.owl_name.proofs.RestLaws as laws
@@ -12,7 +12,7 @@ use Rattle.owl_name.proofs.declared_at.Statement.{statement}
 use Rattle.owl_name.proofs.declared_at.Tie as tie
 
 abbrev Inv-loop : tie.InvT-loop
-Inv-loop s sort k name at₀ does₀ at does = (at ≤ length s) × (declaredAt s sort (nameOf k name) ≡ firstPlace (declares sort (nameOf k name)) (length s) (restOf s at does))
+Inv-loop s sort k name at₀ does₀ at does = (at ≤ length s) × (declaredAt s sort (nameBy k name) ≡ firstPlace (declares sort (nameBy k name)) (length s) (restOf s at does))
 
 abbrev μ-loop : tie.MeasureT-loop
 μ-loop s sort k name at₀ does₀ at does = length s - at

@@ -90,7 +90,7 @@ module _ {X : Type 0} (placeOf : X → ℕ) where
     keys-more (y ∷ pre) x = ap (λ (l : List A). keyOf y ∷ l) (keys-more pre x)
 
     module _ (same-refl : (x : A) → T (same x x)) (same-means : (x y : A) → T (same x y) → x ≡ y) where
-      first-own : (lo end : ℕ) (pre post : List X) (x : X) → Rising placeOf lo end (pre ++ (x ∷ post)) →
+      pub first-own : (lo end : ℕ) (pre post : List X) (x : X) → Rising placeOf lo end (pre ++ (x ∷ post)) →
           eqb (firstOf placeOf keyOf same (keyOf x) end (pre ++ (x ∷ post))) (placeOf x) ≡ not (isAmong same (keyOf x) (keys placeOf keyOf pre))
       unfolding firstOf keys isAmong anyOf
       first-own lo end [] post x r =

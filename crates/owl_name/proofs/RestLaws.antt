@@ -27,7 +27,7 @@ use Rattle.owl_name.specs.Declared.{restOf, declares, declaredAt}
 -- From a byte on
 
 -- reading goes on
-goes : (s : List ℕ) (at : ℕ) → at ≤ length s → eqb (kindAt s at) 0 ≡ false → (at < endAt s at) × (endAt s at ≤ length s)
+pub goes : (s : List ℕ) (at : ℕ) → at ≤ length s → eqb (kindAt s at) 0 ≡ false → (at < endAt s at) × (endAt s at ≤ length s)
 goes s at h e = (progress s at (more s at h (eqb-false (kindAt s at) 0 e)), end-le s at h)
 
 placed-fuel : (s : List ℕ) (f g at q : ℕ) → at ≤ length s → length s < at + f → length s < at + g → placedFrom s f at q ≡ placedFrom s g at q

@@ -17,7 +17,7 @@ fn wide(x: u8) -> usize
     x as usize
 }
 
-fn is_name(k: u8) -> bool
+pub fn is_name(k: u8) -> bool
     ensures { λ r. ⌜ r ≡ isName k ⌝ }
 {
     if k == 13 {
@@ -27,7 +27,7 @@ fn is_name(k: u8) -> bool
 }
 
 // What the next name does after a token of kind k, where it would have done q.
-fn sort_after(q: u8, k: u8) -> u8
+pub fn sort_after(q: u8, k: u8) -> u8
     ensures { λ r. ⌜ r ≡ sortAfter q k ⌝ }
 {
     if k < 4 {
@@ -79,7 +79,7 @@ fn begins_with(w: &[u8], b: &[u8]) -> bool
 }
 
 // Names are compared as they are written: a short one and a full one are two.
-fn same_name(k: u8, a: &[u8], j: u8, b: &[u8]) -> bool
+pub fn same_name(k: u8, a: &[u8], j: u8, b: &[u8]) -> bool
     ensures { λ r. ⌜ r ≡ sameName (nameBy k (now (a .entry))) (nameBy j (now (b .entry))) ⌝ }
 {
     if k == 13 {

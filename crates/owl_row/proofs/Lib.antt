@@ -1,0 +1,4 @@
+pub mod StandLaws
+pub mod LikeLaws
+pub mod CountLaws
+pub mod FreshLaws

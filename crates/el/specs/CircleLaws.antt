@@ -1,7 +1,6 @@
 -- The finite fact behind the cycle test, over any relation.
 --
 --   reaches-along  == steps of one relation that are chains of another make its chains chains of the other
---   Stand d p      == each number that passes p has a step of d to one that passes p
 --   circle-some    == in a finite set where each element has a step to some element of the set, some element leads to itself
 --   circle-stands  == and back: the numbers that lead to themselves are such a set
 use mathlib.Core.Path.{_≡_, subst}
@@ -16,13 +15,11 @@ use borrow.Author.Tests.{eq-eqb}
 use Rattle.el.specs.TestLaws.{true-is, or-left, or-right, or-cases, and-make, and-left, and-right}
 use Rattle.el.specs.Assignment.{Reaches, once, then}
 use Rattle.el.specs.ReachLaws.{reaches-join}
+use Rattle.el.specs.Standing.{Stand}
 
 pub reaches-along : {d e : ℕ → ℕ → Bool} → ((x y : ℕ) → T (d x y) → Reaches e x y) → {x y : ℕ} → Reaches d x y → Reaches e x y
 reaches-along f {x} {y} (once u) = f x y u
 reaches-along {d} {e} f {x} (then {y = z} u r) = reaches-join e (f x z u) (reaches-along f r)
-
-abbrev pub Stand : (ℕ → ℕ → Bool) → (ℕ → Bool) → Type 0
-Stand d p = (x : ℕ) → T (p x) → (y : ℕ) × T (p y) × T (d x y)
 
 -- without its last element n: a step to n goes on to where n leads
 module _ (d : ℕ → ℕ → Bool) (p : ℕ → Bool) (n : ℕ) where

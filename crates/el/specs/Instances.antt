@@ -23,8 +23,8 @@ use Rattle.el.specs.Table.{Table, rowAt, atoms, declared}
 use Rattle.el.specs.Meaning.{holds, makes}
 use Rattle.el.specs.Assignment.{Assignment, setOf, IsAssignment, depends, path, Reaches, reaches, Acyclic, acyclic, atomUnder, conjoin, setUnder, inducedTo, induced, Solves, solves}
 use Rattle.el.specs.ReachLaws.{acyclic-means}
-use Rattle.el.specs.CircleLaws.{Stand, circle-some}
-use Rattle.el.specs.Standing.{standing}
+use Rattle.el.specs.CircleLaws.{circle-some}
+use Rattle.el.specs.Standing.{Stand, standing}
 use Rattle.el.specs.StandingLaws.{stands-below, struck-exactly}
 use Rattle.el.specs.Locality.{number, listTo, localSet, localAssignment, IsLocal, Unifiable, Solvable}
 use Rattle.el.specs.LocalityLaws.{locality, local-iff, solves-means}

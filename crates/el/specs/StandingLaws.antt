@@ -15,10 +15,10 @@ use Rattle.el.specs.Test.{anyBelow}
 use Rattle.el.specs.TestLaws.{true-is, false-not, and-make, and-left, and-right, anyBelow-hit, anyBelow-found, anyBelow-same}
 use Rattle.el.specs.Assignment.{Reaches}
 use Rattle.el.specs.ReachLaws.{reaches-first}
-use Rattle.el.specs.CircleLaws.{Stand, circle-some, circle-stands}
+use Rattle.el.specs.CircleLaws.{circle-some, circle-stands}
 use Rattle.el.specs.InducedLaws.{countBelow-le, countBelow-lt, countBelow-all}
 use Rattle.el.specs.Rank.{countBelow}
-use Rattle.el.specs.Standing.{standing}
+use Rattle.el.specs.Standing.{Stand, standing}
 
 module _ (d : ℕ → ℕ → Bool) (v : ℕ) where
   abbrev on : ℕ → ℕ → ℕ → Bool

@@ -2,7 +2,7 @@
 //
 // Given are a readable table, its counts, what is prepared of it once, and the sets of the variables chosen so far. Variables are bits of
 // a mask: one row of marks. The atoms whose filler is marked tell which variables depend on a marked one: those whose sets have such an
-// atom. Marking these too, again and again, marks all that lead to the marks at first. Striking out, again and again, what depends on
+// atom. Marking these too, again and again, marks all that lead to the first marks. Striking out, again and again, what depends on
 // nothing still standing leaves something exactly if the node is cyclic, and so dead. Else a variable is settled if it and all it leads to
 // are chosen; a line is ready if all its variables are settled; and the node is dead if a ready line fails.
 use bounds::Place;

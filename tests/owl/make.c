@@ -10,15 +10,15 @@
 
 enum form { THING, CONSTANT, OPEN, BOTH, SOME };
 
+/* A large text may pass each bound by two. */
+enum { MOST_CLASSES = 20000, MOST_NAMES = MOST_ATOMS + MOST_VARIABLES + MOST_ROLES + 6, MOST_ITEMS = 400 };
+
 struct class {
     enum form form;
     u32 number;  /* of a constant, an open name, or the role of a restriction */
     u32 parts;   /* how many an intersection has; 1 for a restriction */
     u32 part[MOST_ENTRIES + 2];
 };
-
-/* A large text may pass each bound by two. */
-enum { MOST_CLASSES = 20000, MOST_NAMES = MOST_ATOMS + MOST_VARIABLES + MOST_ROLES + 6, MOST_ITEMS = 400 };
 
 static struct class classes[MOST_CLASSES];
 static u32 class_count;
@@ -62,7 +62,10 @@ static u32 any_class(struct chance *chance, u32 levels, u32 opens) {
     if (kind < 8) return new_class(THING, 0);
     if (kind < 30 && opens) return new_class(OPEN, below_bound(chance, opens));
     if (kind < 55) return plan.c ? new_class(CONSTANT, below_bound(chance, plan.c)) : new_class(THING, 0);
-    if (kind < 80 && plan.r) return some(below_bound(chance, plan.r), any_class(chance, levels - 1, opens));
+    if (kind < 80 && plan.r) {
+        u32 role = below_bound(chance, plan.r);
+        return some(role, any_class(chance, levels - 1, opens));
+    }
     class = new_class(BOTH, 0);
     for (i = between(chance, 2, plan.widest); i > 0; i--) add_part(class, any_class(chance, levels - 1, opens));
     return class;
@@ -85,7 +88,10 @@ static u32 above(struct chance *chance, u32 class) {
 /* A class that lies below the given one. */
 static u32 below(struct chance *chance, u32 class) {
     u32 new, i;
-    if (percent(chance, 20)) return both(below(chance, class), any_class(chance, 1, plan.v));
+    if (percent(chance, 20)) {
+        u32 more = any_class(chance, 1, plan.v);
+        return both(below(chance, class), more);
+    }
     if (classes[class].form == SOME) return some(classes[class].number, below(chance, classes[class].part[0]));
     if (classes[class].form != BOTH) return class;
     new = new_class(BOTH, 0);
@@ -285,8 +291,12 @@ enum joins make_text(struct chance *chance, struct bytes *text) {
     declared = item_count;
     for (i = 0; i < plan.v; i++) plan.meant[i] = any_class(chance, levels, i);
     for (i = 0; i < axioms; i++) {
-        if (joins == JOINS) add_holding(chance, levels);
-        else add_axiom(percent(chance, 70) ? SUB : EQUIVALENT, any_class(chance, levels, plan.v), any_class(chance, levels, plan.v));
+        if (joins == JOINS) {
+            add_holding(chance, levels);
+        } else {
+            u32 left = any_class(chance, levels, plan.v), right = any_class(chance, levels, plan.v);
+            add_axiom(percent(chance, 70) ? SUB : EQUIVALENT, left, right);
+        }
     }
     if (kind == 2 && add_failing(chance)) joins = JOINS_NOT;
     switch (below_bound(chance, 3)) {

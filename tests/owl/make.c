@@ -23,14 +23,16 @@ struct class {
 static struct class classes[MOST_CLASSES];
 static u32 class_count;
 
-/* The text that is made: how many names there are, how they are written, and what each open name stands for. */
+/* The text that is made: how many names there are, and how they are written. */
 static struct {
     u32 c, v, r;
     u32 widest;  /* intersection */
     char constants[MOST_NAMES][32], opens[MOST_NAMES][32], roles[MOST_NAMES][32];
-    u32 meant[MOST_NAMES];
     int is_wild; /* blanks and comments anywhere */
 } plan;
+
+/* What each open name stands for: a class. */
+static u32 stands_for[MOST_NAMES];
 
 static u32 new_class(enum form form, u32 number) {
     struct class *class = &classes[class_count];
@@ -118,13 +120,13 @@ static void add_item(int kind, const char *name, u32 left, u32 right) {
 
 static void add_axiom(int kind, u32 left, u32 right) { add_item(kind, NULL, left, right); }
 
-/* An axiom that holds where each open name stands for what is meant. */
+/* An axiom that holds as the open names stand now. */
 static void add_holding(struct chance *chance, u32 levels) {
     u32 class, meant;
     if (plan.v && percent(chance, 65)) {
         u32 open = below_bound(chance, plan.v);
         class = new_class(OPEN, open);
-        meant = plan.meant[open];
+        meant = stands_for[open];
         switch (below_bound(chance, 4)) {
         case 0: add_axiom(EQUIVALENT, class, meant); break;
         case 1: add_axiom(EQUIVALENT, meant, class); break;
@@ -160,6 +162,90 @@ static int add_failing(struct chance *chance) {
         return 0;
     }
     return 1;
+}
+
+/* ---- Meaning: the order between descriptions, as the open names stand */
+
+static int is_below(u32 left, u32 right);
+
+/* Whether a conjunct of the left class lies below a constant or restriction. */
+static int has(u32 left, u32 atom) {
+    const struct class *class = &classes[left];
+    u32 i;
+    switch (class->form) {
+    case THING: return 0;
+    case OPEN: return has(stands_for[class->number], atom);
+    case CONSTANT: return classes[atom].form == CONSTANT && classes[atom].number == class->number;
+    case SOME:
+        return classes[atom].form == SOME && classes[atom].number == class->number && is_below(class->part[0], classes[atom].part[0]);
+    case BOTH: break;
+    }
+    for (i = 0; i < class->parts; i++)
+        if (has(class->part[i], atom)) return 1;
+    return 0;
+}
+
+static int is_below(u32 left, u32 right) {
+    const struct class *class = &classes[right];
+    u32 i;
+    if (class->form == THING) return 1;
+    if (class->form == OPEN) return is_below(left, stands_for[class->number]);
+    if (class->form != BOTH) return has(left, right);
+    for (i = 0; i < class->parts; i++)
+        if (!is_below(left, class->part[i])) return 0;
+    return 1;
+}
+
+static int all_hold(void) {
+    u32 i;
+    for (i = 0; i < item_count; i++) {
+        if (items[i].kind != SUB && items[i].kind != EQUIVALENT) continue;
+        if (!is_below(items[i].left, items[i].right)) return 0;
+        if (items[i].kind == EQUIVALENT && !is_below(items[i].right, items[i].left)) return 0;
+    }
+    return 1;
+}
+
+/* Which of the names has this number by first declaration. */
+static u32 name_with(u32 number, char (*names)[32], u32 count) {
+    u32 i, j, before;
+    for (i = 0; i < item_count; i++) {
+        for (j = 0; j < count && items[i].name != names[j];) j++;
+        for (before = 0; before < i && items[before].name != items[i].name;) before++;
+        if (j < count && before == i && number-- == 0) return j;
+    }
+    abort();
+}
+
+/* What a variable of the table stands for. */
+static u32 meaning_of(const unsigned char *table, const u64 *sets, u32 variable) {
+    u32 c = table[5], e = table[8], i, meaning = new_class(THING, 0);
+    for (i = 0; i < c + e; i++) {
+        const unsigned char *row;
+        u32 filler;
+        if ((sets[variable] >> i & 1) == 0) continue;
+        if (i < c) {
+            meaning = both(meaning, new_class(CONSTANT, name_with(i, plan.constants, plan.c)));
+            continue;
+        }
+        row = table + 10 + 2 * (i - c);
+        if (row[1] == CODE_TOP) filler = new_class(THING, 0);
+        else if (row[1] < CODE_RESTRICTION) filler = new_class(CONSTANT, name_with(row[1] - CODE_CONSTANT, plan.constants, plan.c));
+        else filler = meaning_of(table, sets, row[1] - CODE_VARIABLE);
+        meaning = both(meaning, some(name_with(row[0], plan.roles, plan.r), filler));
+    }
+    return meaning;
+}
+
+int text_holds(const unsigned char *table, const u64 *sets) {
+    u32 i, declared = 0;
+    for (i = 0; i < plan.v; i++) {
+        u32 item = 0;
+        while (item < item_count && items[item].name != plan.opens[i]) item++;
+        declared += item < item_count;
+    }
+    for (i = 0; i < declared; i++) stands_for[name_with(i, plan.opens, plan.v)] = meaning_of(table, sets, i);
+    return all_hold();
 }
 
 /* ---- Writing */
@@ -233,7 +319,10 @@ static void name_it(char *name, const char *before, u32 number, const char *behi
 }
 
 static void name_all(struct chance *chance) {
-    static const char *const styles[][2] = {{":C", ""}, {"ex:C", ""}, {"<urn:c#C", ">"}, {":", ""}, {":Open-", ".x"}, {"x:open-", ""}, {"<open-", " (1)>"}, {":C", ":\xC3\xA9"}};
+    static const char *const styles[][2] = {
+        {":C", ""},        {"ex:C", ""},    {"<urn:c#C", ">"},  {":", ""},
+        {":Open-", ".x"},  {"x:open-", ""}, {"<open-", " (1)>"}, {":C", ":\xC3\xA9"},
+    };
     u32 i, style;
     for (i = 0; i < plan.c; i++) {
         style = percent(chance, 70) ? 0 : below_bound(chance, sizeof styles / sizeof *styles);
@@ -289,7 +378,7 @@ enum joins make_text(struct chance *chance, struct bytes *text) {
     name_all(chance);
     declare_all(chance);
     declared = item_count;
-    for (i = 0; i < plan.v; i++) plan.meant[i] = any_class(chance, levels, i);
+    for (i = 0; i < plan.v; i++) stands_for[i] = any_class(chance, levels, i);
     for (i = 0; i < axioms; i++) {
         if (joins == JOINS) {
             add_holding(chance, levels);
@@ -298,6 +387,7 @@ enum joins make_text(struct chance *chance, struct bytes *text) {
             add_axiom(percent(chance, 70) ? SUB : EQUIVALENT, left, right);
         }
     }
+    if (joins == JOINS && !all_hold()) abort();
     if (kind == 2 && add_failing(chance)) joins = JOINS_NOT;
     switch (below_bound(chance, 3)) {
     case 0: shuffle(chance, 0, item_count); break;
@@ -372,8 +462,8 @@ void damage_text(struct chance *chance, struct bytes *text) {
     static const char odd[] = "()=<>#\" :-_.,\n\rAz\f\x80";
     static const char *const words[] = {
         "Prefix", "Ontology", "Declaration", "Class", "ObjectProperty", "SubClassOf", "EquivalentClasses", "ObjectIntersectionOf",
-        "ObjectSomeValuesFrom", "ObjectUnionOf", "DisjointClasses", "NamedIndividual", "Annotation", "objectSomeValuesFrom", "A", "owl:Thing",
-        "owl:Nothing", "owl:", "_:b", ":-a", ":none", "<none>", "<none", "(", ")", "=",
+        "ObjectSomeValuesFrom", "ObjectUnionOf", "DisjointClasses", "NamedIndividual", "Annotation", "objectSomeValuesFrom", "A",
+        "owl:Thing", "owl:Nothing", "owl:", "_:b", ":-a", ":none", "<none>", "<none", "(", ")", "=",
     };
     static struct span tokens[16384];
     size_t count = tokens_of(text, tokens, 16384), place, i, j;

@@ -1,0 +1,2 @@
+pub mod Owl
+pub mod OwlLaws

@@ -6,6 +6,7 @@
 --   row-alike        == so for rows
 --   restrictions-known == the restrictions of a text whose file's names are known are known
 --   rows-once        == the rows of a file are those of the different restrictions of its text
+--   rows-length      == so they are as many
 --   row-place        == and a restriction's row has the place of the restriction
 use mathlib.Core.Path.{_≡_, refl, sym, ap, ap₂, subst, _∙_}
 use mathlib.Core.Bool.{Bool, true, false, _&&_, _||_}
@@ -13,7 +14,7 @@ use mathlib.Core.List.{List, [], _∷_}
 use Prim.Native.Nat.{ℕ, _+_, _<_}
 use native.Mathlib.Omega.{arith}
 use lib.Dec.{T, eqb, eqb→eq, eqb-refl}
-use lib.ListN.{length}
+use lib.ListN.{length, length-map}
 use borrow.Author.Tests.{ne-eqb}
 use Rattle.el.specs.Test.{everyOf}
 use Rattle.el.specs.TestLaws.{is-true, is-false, true-is, same-test, and-make, and-left, and-right}
@@ -178,6 +179,11 @@ rows-once s f e h =
     let v : ℕ = length (d .opens) in
     ap (once sameRow []) (sym (rows-said d v s f e))
     ∙ once-map sameRestriction sameRow (rowFor d v) (isKnownIn d) (row-alike d) (restrictionsOf (standing s)) [] tt (restrictions-known s f e h)
+
+pub rows-length : (s : List ℕ) (f : File) → Says s f → T (allKnown f) → length (once sameRestriction [] (restrictionsOf (standing s))) ≡ length (rowsOfFile f)
+rows-length s f e h =
+    let d : Names = namesOf (f .items) in
+    sym (ap length (rows-once s f e h) ∙ length-map (once sameRestriction [] (restrictionsOf (standing s))) (rowFor d (length (d .opens))))
 
 pub row-place : (s : List ℕ) (f : File) → Says s f → T (allKnown f) → (r : Restriction) → T (isKnownIn (namesOf (f .items)) r) →
     place sameRow (rowFor (namesOf (f .items)) (length (namesOf (f .items) .opens)) r) (rowsOfFile f) ≡ place sameRestriction r (once sameRestriction [] (restrictionsOf (standing s)))

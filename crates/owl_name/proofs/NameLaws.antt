@@ -155,7 +155,7 @@ open-full k w e = sym (ap isOpen (full-name k w e))
 -- Declarations
 
 -- what is no name, or does something else
-and-false : (b c : Bool) → c ≡ false → false ≡ (b && c)
+pub and-false : (b c : Bool) → c ≡ false → false ≡ (b && c)
 and-false true c e = sym e
 and-false false c e = refl
 

@@ -3,7 +3,7 @@
 --   rising-lower, rising-behind       == bytes that rise from one byte on rise from an earlier one; what stands behind lies behind
 --   first-between                     == the first of a key lies between
 --   among-first                       == a key is there exactly if the first that has it lies before the end
---   before-none, before-take, before-all == what lies before a byte
+--   before-none, before-take, before-all, before-own == what lies before a byte
 --   first-own                         == a thing is the first of its key exactly if none before it has that key
 --   count-more                        == how many different keys there are with one thing more
 --   place-count                       == a key's place among the different ones is the number of different ones before the first that has it
@@ -52,7 +52,7 @@ module _ {X : Type 0} (placeOf : X → ℕ) where
       let z : lo ≤ placeOf x = r .0 in
       ap (λ (b : Bool). elim b [ true ↦ x ∷ before placeOf limit l | false ↦ [] ]) (le-ltb (placeOf x) limit (let y : limit ≤ placeOf x = omega arith in y))
 
-  before-take : (limit : ℕ) (x : X) (l : List X) → placeOf x < limit → before placeOf limit (x ∷ l) ≡ x ∷ before placeOf limit l
+  pub before-take : (limit : ℕ) (x : X) (l : List X) → placeOf x < limit → before placeOf limit (x ∷ l) ≡ x ∷ before placeOf limit l
   unfolding before
   before-take limit x l h = ap (λ (b : Bool). elim b [ true ↦ x ∷ before placeOf limit l | false ↦ [] ]) (lt-ltb (placeOf x) limit h)
 
@@ -60,6 +60,13 @@ module _ {X : Type 0} (placeOf : X → ℕ) where
   unfolding before
   before-all lo end [] r = refl
   before-all lo end (x ∷ l) r = before-take end x l (r .1) ∙ ap (λ (k : List X). x ∷ k) (before-all (suc (placeOf x)) end l (r .2))
+
+  pub before-own : (lo end : ℕ) (pre post : List X) (x : X) → Rising placeOf lo end (pre ++ (x ∷ post)) → before placeOf (placeOf x) (pre ++ (x ∷ post)) ≡ pre
+  unfolding before
+  before-own lo end [] post x r = ap (λ (b : Bool). elim b [ true ↦ x ∷ before placeOf (placeOf x) post | false ↦ [] ]) (le-ltb (placeOf x) (placeOf x) (omega arith))
+  before-own lo end (y ∷ pre) post x r =
+      before-take (placeOf x) y (pre ++ (x ∷ post)) (rising-behind (suc (placeOf y)) end pre post x (r .2))
+      ∙ ap (λ (l : List X). y ∷ l) (before-own (suc (placeOf y)) end pre post x (r .2))
 
   module _ {A : Type 0} (keyOf : X → A) (same : A → A → Bool) where
     pub first-between : (x : A) (lo end : ℕ) (l : List X) → Rising placeOf lo end l → (lo ≤ firstOf placeOf keyOf same x end l) × (firstOf placeOf keyOf same x end l ≤ end)

@@ -21,6 +21,7 @@ use Rattle.owl.specs.Mention.{sortAfter, nameBy, nameAt}
 use Rattle.owl.specs.Restriction.{byName, byNumber, Restriction, restricted, partAt, ownAt, Standing, standingAt, standing, restrictionsOf, sameRestriction}
 use Rattle.owl_name.specs.Ordered.{before, Rising, keys, firstOf}
 use Rattle.owl_name.specs.Declared.{oneIf}
+use Rattle.owl_name.proofs.NameLaws.{and-false}
 use Rattle.owl_name.proofs.RestLaws.{AtToken, token-name, token-goes}
 use Rattle.owl_name.proofs.OrderedLaws as ordered
 use Rattle.owl_row.specs.Rows.{placeIn, keyIn, restOf, firstRow, differentRows, addsRow, IsNumber}
@@ -29,14 +30,10 @@ use Rattle.owl_row.proofs.StandLaws.{rest-start, rest-end, rest-turn, s
 ----------------------------------------------------------------------------------------------------
 -- One token
 
-and-none : (b : Bool) → false ≡ (b && false)
-and-none true = refl
-and-none false = refl
-
 pub adds-idle : (s : List ℕ) (does p k : ℕ) (n : Name) (e : ℕ) → (does ≡ 4 → ⊥) → 0 ≡ oneIf (addsRow s does p k n e)
 unfolding addsRow oneIf
 adds-idle s does p k n e h =
-    ap oneIf (and-none (isName k) ∙ sym (ap (λ (b : Bool). isName k && (b && (not (isName (kindAt s e)) || eqb (firstRow s (restricted n (byName (nameAt s e)))) p))) (ne-eqb does 4 h)))
+    ap oneIf (and-false (isName k) false refl ∙ sym (ap (λ (b : Bool). isName k && (b && (not (isName (kindAt s e)) || eqb (firstRow s (restricted n (byName (nameAt s e)))) p))) (ne-eqb does 4 h)))
 
 pub adds-none : (s : List ℕ) (does p k : ℕ) (n : Name) (e : ℕ) → isName k ≡ false → 0 ≡ oneIf (addsRow s does p k n e)
 unfolding addsRow oneIf

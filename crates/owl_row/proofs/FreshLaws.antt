@@ -1,33 +1,32 @@
 -- How many fillers are no names, token by token.
 --
 --   own-idle, own-none, own-named, own-fresh == whether a token is the role of a restriction whose filler is no name
---   Owning                                   == so many were before the byte `at`, and the rest is behind it
---   owning-start, owning-turn, owning-end    == token by token
+--   Owning                                   == so many were before the byte `at` and the limit, and the rest is behind it
+--   owning-start, owning-turn, owning-end, owning-limit == token by token
+--   fresh-all                                == all of them
 use mathlib.Core.Path.{_≡_, refl, sym, ap, ap₂, _∙_}
 use mathlib.Core.Bool.{Bool, true, false, _&&_, not}
-use mathlib.Core.List.{List, _∷_}
-use Prim.Native.Nat.{ℕ, _+_, _≤_, _<_}
+use mathlib.Core.List.{List, [], _∷_}
+use Prim.Native.Nat.{ℕ, suc, _+_, _-_, _≤_, _<_}
 use native.Mathlib.Omega.{arith}
 use lib.Dec.{eqb}
 use lib.ListN.{length}
 use borrow.Author.Tests.{eq-eqb, ne-eqb}
-use Rattle.owl.specs.Token.{kindAt, endAt}
+use Rattle.owl.specs.Token.{placeAt, kindAt, endAt}
 use Rattle.owl.specs.Grammar.{isName}
 use Rattle.owl.specs.Mention.{sortAfter, nameAt}
 use Rattle.owl.specs.Restriction.{byName, byNumber, partAt, ownAt, Standing, standingAt, standing, restrictionsOf, ownOne, ownsOf}
 use Rattle.owl_name.specs.Declared.{oneIf}
+use Rattle.owl_name.proofs.NameLaws.{and-false}
 use Rattle.owl_name.proofs.RestLaws.{AtToken, token-goes}
-use Rattle.owl_name.proofs.OrderedLaws.{oneIf-le}
-use Rattle.owl_row.specs.Rows.{restOf, ownHere}
-use Rattle.owl_row.proofs.StandLaws.{turned, rest-start, rest-end, rest-turn}
-
-and-none : (b : Bool) → false ≡ (b && false)
-and-none true = refl
-and-none false = refl
+use Rattle.owl_name.specs.Ordered.{before}
+use Rattle.owl_name.proofs.OrderedLaws.{oneIf-le, before-none, before-take, before-all}
+use Rattle.owl_row.specs.Rows.{placeIn, restOf, ownHere, freshBefore}
+use Rattle.owl_row.proofs.StandLaws.{turned, rest-start, rest-end, rest-turn, standing-rising, all-rising}
 
 pub own-idle : (s : List ℕ) (does k e : ℕ) → (does ≡ 4 → ⊥) → 0 ≡ oneIf (ownHere s does k e)
 unfolding ownHere oneIf
-own-idle s does k e h = ap oneIf (and-none (isName k) ∙ sym (ap (λ (b : Bool). isName k && (b && not (isName (kindAt s e)))) (ne-eqb does 4 h)))
+own-idle s does k e h = ap oneIf (and-false (isName k) false refl ∙ sym (ap (λ (b : Bool). isName k && (b && not (isName (kindAt s e)))) (ne-eqb does 4 h)))
 
 pub own-none : (s : List ℕ) (does k e : ℕ) → isName k ≡ false → 0 ≡ oneIf (ownHere s does k e)
 unfolding ownHere oneIf
@@ -49,46 +48,67 @@ own-fresh s does k e j h d f c = own-asked s does k e j false h d f c
 abbrev owns : List Standing → ℕ
 owns l = ownsOf (restrictionsOf l)
 
-pub record Owning (s : List ℕ) (at does count : ℕ) : Type 0 where
+pub record Owning (s : List ℕ) (limit at does count : ℕ) : Type 0 where
   pub within : at ≤ length s
   pub few : count ≤ at
   pub number : ℕ
-  pub left : owns (standing s) ≡ count + owns (restOf s at does number)
+  pub left : owns (before placeIn limit (standing s)) ≡ count + owns (before placeIn limit (restOf s at does number))
 
-pub owning-start : (s : List ℕ) → Owning s 0 0 0
-owning-start s = record {
+pub owning-start : (s : List ℕ) (limit : ℕ) → Owning s limit 0 0 0
+owning-start s limit = record {
   within = omega arith;
   few = omega arith;
   number = 0;
-  left = (let z : owns (standing s) ≡ owns (restOf s 0 0 0) = ap owns (rest-start s) in omega arith);
+  left = (let z : owns (before placeIn limit (standing s)) ≡ owns (before placeIn limit (restOf s 0 0 0)) = ap (λ (l : List Standing). owns (before placeIn limit l)) (rest-start s) in omega arith);
 }
 
-pub owning-end : (s : List ℕ) (at does count k p e : ℕ) → Owning s at does count → AtToken s at k p e → k ≡ 0 → count ≡ owns (standing s)
-unfolding ownsOf
-owning-end s at does count k p e o t z =
-    let y : owns (standing s) ≡ count + owns (restOf s at does (o .number)) = o .left in
-    let w : owns (restOf s at does (o .number)) ≡ 0 = ap owns (rest-end s at does (o .number) (sym (t .0) ∙ z)) in
+-- nothing is left
+ended : (s : List ℕ) (limit at does count : ℕ) (o : Owning s limit at does count) → before placeIn limit (restOf s at does (o .number)) ≡ [] → count ≡ freshBefore s limit
+unfolding freshBefore ownsOf
+ended s limit at does count o e =
+    let y : owns (before placeIn limit (standing s)) ≡ count + owns (before placeIn limit (restOf s at does (o .number))) = o .left in
+    let w : owns (before placeIn limit (restOf s at does (o .number))) ≡ 0 = ap owns e in
     omega arith
 
+pub owning-end : (s : List ℕ) (limit at does count k p e : ℕ) → Owning s limit at does count → AtToken s at k p e → k ≡ 0 → count ≡ freshBefore s limit
+unfolding before
+owning-end s limit at does count k p e o t z = ended s limit at does count o (ap (before placeIn limit) (rest-end s at does (o .number) (sym (t .0) ∙ z)))
+
+pub owning-limit : (s : List ℕ) (limit at does count k p e : ℕ) → Owning s limit at does count → AtToken s at k p e → limit ≤ p → count ≡ freshBefore s limit
+unfolding restOf
+owning-limit s limit at does count k p e o t l =
+    ended s limit at does count o
+    (before-none placeIn limit (placeAt s at) (length s) (restOf s at does (o .number)) (standing-rising s (suc (length s - at)) at does (o .number) (o .within))
+    (let d : p ≡ placeAt s at = t .1 in let y : limit ≤ placeAt s at = omega arith in y))
+
 -- a token's own, and those behind it
-own-turn : (s : List ℕ) (at q n : ℕ) (rest : ℕ → List Standing) → (m : ℕ) × (owns (turned s at q n rest) ≡ oneIf (ownHere s q (kindAt s at) (endAt s at)) + owns (rest m))
+own-turn : (s : List ℕ) (limit at q n : ℕ) (rest : ℕ → List Standing) → placeAt s at < limit →
+    (m : ℕ) × (owns (before placeIn limit (turned s at q n rest)) ≡ oneIf (ownHere s q (kindAt s at) (endAt s at)) + owns (before placeIn limit (rest m)))
 unfolding ownsOf ownHere oneIf partAt
-own-turn s at q n rest = go (isName (kindAt s at)) (eqb q 4)
+own-turn s limit at q n rest l = go (isName (kindAt s at)) (eqb q 4)
   where
     one : (b : Bool) → ownOne (elim b [ true ↦ byName (nameAt s (endAt s at)) | false ↦ byNumber n ]) ≡ oneIf (not b)
     one true = refl
     one false = refl
 
-    go : (a b : Bool) →
-        (m : ℕ) × (owns (elim (a && b) [ true ↦ standingAt s at n ∷ rest (n + ownAt s (endAt s at)) | false ↦ rest n ]) ≡ oneIf (a && (b && not (isName (kindAt s (endAt s at))))) + owns (rest m))
-    go true true = (n + ownAt s (endAt s at), ap (λ (k : ℕ). k + owns (rest (n + ownAt s (endAt s at)))) (one (isName (kindAt s (endAt s at)))))
-    go true false = (n, let z : owns (rest n) ≡ 0 + owns (rest n) = omega arith in z)
-    go false b = (n, let z : owns (rest n) ≡ 0 + owns (rest n) = omega arith in z)
+    none : owns (before placeIn limit (rest n)) ≡ 0 + owns (before placeIn limit (rest n))
+    none = let z : owns (before placeIn limit (rest n)) ≡ 0 + owns (before placeIn limit (rest n)) = omega arith in z
 
-pub owning-turn : (s : List ℕ) (at does count k p e next a : ℕ) → Owning s at does count → AtToken s at k p e → e ≤ length s → (k ≡ 0 → ⊥) → next ≡ sortAfter does k →
-    a ≡ oneIf (ownHere s does k e) → Owning s e next (count + a)
-owning-turn s at does count k p e next a o t w z d f =
-    let turn = own-turn s at does (o .number) (restOf s (endAt s at) (sortAfter does (kindAt s at))) in
+    go : (a b : Bool) →
+        (m : ℕ) × (owns (before placeIn limit (elim (a && b) [ true ↦ standingAt s at n ∷ rest (n + ownAt s (endAt s at)) | false ↦ rest n ]))
+        ≡ oneIf (a && (b && not (isName (kindAt s (endAt s at))))) + owns (before placeIn limit (rest m)))
+    go true true = (
+      n + ownAt s (endAt s at),
+      ap owns (before-take placeIn limit (standingAt s at n) (rest (n + ownAt s (endAt s at))) l)
+          ∙ ap (λ (k : ℕ). k + owns (before placeIn limit (rest (n + ownAt s (endAt s at))))) (one (isName (kindAt s (endAt s at)))),
+    )
+    go true false = (n, none)
+    go false b = (n, none)
+
+pub owning-turn : (s : List ℕ) (limit at does count k p e next a : ℕ) → Owning s limit at does count → AtToken s at k p e → e ≤ length s → (k ≡ 0 → ⊥) → p < limit → next ≡ sortAfter does k →
+    a ≡ oneIf (ownHere s does k e) → Owning s limit e next (count + a)
+owning-turn s limit at does count k p e next a o t w z l d f =
+    let turn = own-turn s limit at does (o .number) (restOf s (endAt s at) (sortAfter does (kindAt s at))) (let x : p ≡ placeAt s at = t .1 in omega arith) in
     let here : a ≡ oneIf (ownHere s does (kindAt s at) (endAt s at)) = f ∙ ap₂ (λ (i j : ℕ). oneIf (ownHere s does i j)) (t .0) (t .2) in
     let small : oneIf (ownHere s does (kindAt s at) (endAt s at)) ≤ 1 = oneIf-le (ownHere s does (kindAt s at) (endAt s at)) in
     let goes : at < e = token-goes s at k p e t (o .within) z in record {
@@ -96,10 +116,15 @@ owning-turn s at does count k p e next a o t w z d f =
       few = (let y : count ≤ at = o .few in omega arith);
       number = turn .0;
       left =
-          (let x : owns (standing s) ≡ count + owns (restOf s at does (o .number)) = o .left in
-          let y : owns (restOf s at does (o .number)) ≡ oneIf (ownHere s does (kindAt s at) (endAt s at)) + owns (restOf s (endAt s at) (sortAfter does (kindAt s at)) (turn .0)) =
-          ap owns (rest-turn s at does (o .number) (o .within) (λ y. z (t .0 ∙ y))) ∙ turn .1 in
-          let u : owns (restOf s (endAt s at) (sortAfter does (kindAt s at)) (turn .0)) ≡ owns (restOf s e next (turn .0)) =
-          ap₂ (λ (i j : ℕ). owns (restOf s i j (turn .0))) (sym (t .2)) (sym (d ∙ ap (sortAfter does) (t .0))) in
+          (let x : owns (before placeIn limit (standing s)) ≡ count + owns (before placeIn limit (restOf s at does (o .number))) = o .left in
+          let y : owns (before placeIn limit (restOf s at does (o .number)))
+          ≡ oneIf (ownHere s does (kindAt s at) (endAt s at)) + owns (before placeIn limit (restOf s (endAt s at) (sortAfter does (kindAt s at)) (turn .0))) =
+          ap (λ (k : List Standing). owns (before placeIn limit k)) (rest-turn s at does (o .number) (o .within) (λ y. z (t .0 ∙ y))) ∙ turn .1 in
+          let u : owns (before placeIn limit (restOf s (endAt s at) (sortAfter does (kindAt s at)) (turn .0))) ≡ owns (before placeIn limit (restOf s e next (turn .0))) =
+          ap₂ (λ (i j : ℕ). owns (before placeIn limit (restOf s i j (turn .0)))) (sym (t .2)) (sym (d ∙ ap (sortAfter does) (t .0))) in
           omega arith);
     }
+
+pub fresh-all : (s : List ℕ) → freshBefore s (length s) ≡ ownsOf (restrictionsOf (standing s))
+unfolding freshBefore
+fresh-all s = ap owns (before-all placeIn 0 (length s) (standing s) (all-rising s))

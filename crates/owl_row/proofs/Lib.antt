@@ -2,3 +2,4 @@ pub mod StandLaws
 pub mod LikeLaws
 pub mod CountLaws
 pub mod FreshLaws
+pub mod FillerLaws

@@ -18,6 +18,7 @@ use Rattle.owl.specs.Grammar.{isName}
 use Rattle.owl.specs.Mention.{sortAfter, nameBy, nameAt}
 use Rattle.owl.specs.Restriction.{byName, byNumber, restricted, partAt, ownAt, Standing, standingAt, samePart, sameRestriction}
 use Rattle.owl_name.specs.Ordered.{firstOf}
+use Rattle.owl_name.proofs.NameLaws.{and-false}
 use Rattle.owl_name.proofs.RestLaws.{AtToken, token-name}
 use Rattle.owl_row.specs.Rows.{placeIn, keyIn, restOf, firstRow, namedAt, alikeAt}
 use Rattle.owl_row.proofs.StandLaws.{turned, rest-start, rest-end, rest-turn}
@@ -30,14 +31,10 @@ pub named-some : (s : List ℕ) (at k p e : ℕ) (n : Name) → AtToken s at k p
 unfolding namedAt
 named-some s at k p e n t d = ap (sameName n) (token-name s at k p e t) ∙ sym (ap (λ (b : Bool). b && sameName n (nameAt s at)) (ap isName (sym (t .0)) ∙ d))
 
-and-none : (b : Bool) → false ≡ (b && false)
-and-none true = refl
-and-none false = refl
-
 module _ (s : List ℕ) (r f : Name) where
   pub alike-idle : (does k : ℕ) (n : Name) (e : ℕ) → (does ≡ 4 → ⊥) → false ≡ alikeAt s r f does k n e
   unfolding alikeAt
-  alike-idle does k n e h = and-none (isName k) ∙ sym (ap (λ (b : Bool). isName k && (b && (sameName r n && namedAt s e f))) (ne-eqb does 4 h))
+  alike-idle does k n e h = and-false (isName k) false refl ∙ sym (ap (λ (b : Bool). isName k && (b && (sameName r n && namedAt s e f))) (ne-eqb does 4 h))
 
   pub alike-none : (does k : ℕ) (n : Name) (e : ℕ) → isName k ≡ false → false ≡ alikeAt s r f does k n e
   unfolding alikeAt

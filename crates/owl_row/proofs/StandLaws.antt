@@ -5,6 +5,7 @@
 --   standing-rising == their bytes rise
 --   Numbered n l    == the fillers of l that are no names have the numbers from n on
 --   fresh-own       == a restriction whose filler is no name stands nowhere before
+--   fresh-number    == the number of a filler that is no name is how many of these came before it
 --   sameRestriction-refl, sameRestriction-means == the test says that they are equal
 use mathlib.Core.Path.{_≡_, refl, sym, ap, ap₂, subst, _∙_}
 use mathlib.Core.Bool.{Bool, true, false, _&&_, _||_}
@@ -24,7 +25,7 @@ use Rattle.owl.specs.TokenLaws.{place-le, end-le}
 use Rattle.owl.specs.Grammar.{isName}
 use Rattle.owl.specs.Mention.{sortAfter, nameAt}
 use Rattle.owl.specs.UndeclaredLaws.{place-within}
-use Rattle.owl.specs.Restriction.{Part, byName, byNumber, Restriction, restricted, partAt, ownAt, Standing, standingAt, standingFrom, standing, restrictionsOf, samePart, sameRestriction}
+use Rattle.owl.specs.Restriction.{Part, byName, byNumber, Restriction, restricted, partAt, ownAt, Standing, standingAt, standingFrom, standing, restrictionsOf, ownOne, ownsOf, samePart, sameRestriction}
 use Rattle.owl_name.specs.Ordered.{Rising}
 use Rattle.owl_name.proofs.RestLaws.{goes}
 use Rattle.owl_name.proofs.GroupLaws.{token-next}
@@ -144,11 +145,11 @@ all-rising s = rising-lower placeIn 0 (placeAt s 0) (length s) (standing s) (ome
 -- the number of the next filler that is no name, behind this one
 abbrev after : ℕ → Part → ℕ
 after n (byName m) = n
-after n (byNumber k) = suc k
+after n (byNumber k) = suc n
 
 abbrev NumberedPart : ℕ → Part → Type 0
 NumberedPart n (byName m) = Unit {0}
-NumberedPart n (byNumber k) = n ≤ k
+NumberedPart n (byNumber k) = k ≡ n
 
 abbrev Numbered : ℕ → List Standing → Type 0
 Numbered n [] = Unit {0}
@@ -167,21 +168,22 @@ standing-numbered s (suc f) at q n = go (eqb (kindAt s at) 0) (isName (kindAt s 
         NumberedPart n (elim b [ true ↦ byName (nameAt s (endAt s at)) | false ↦ byNumber n ])
         × Numbered (after n (elim b [ true ↦ byName (nameAt s (endAt s at)) | false ↦ byNumber n ])) (rest (n + elim b [ true ↦ 0 | false ↦ 1 ]))
     used true ih = (tt, subst (λ (m : ℕ). Numbered n (rest m)) (let z : n ≡ n + 0 = omega arith in z) (ih n))
-    used false ih = (omega arith, subst (λ (m : ℕ). Numbered (suc n) (rest m)) (let z : suc n ≡ n + 1 = omega arith in z) (ih (suc n)))
+    used false ih = (refl, subst (λ (m : ℕ). Numbered (suc n) (rest m)) (let z : suc n ≡ n + 1 = omega arith in z) (ih (suc n)))
 
     go : (b c : Bool) → ((m : ℕ) → Numbered m (rest m)) → Numbered n (elim b [ true ↦ [] | false ↦ elim c [ true ↦ standingAt s at n ∷ rest (n + ownAt s (endAt s at)) | false ↦ rest n ] ])
     go true c ih = tt
     go false true ih = used (isName (kindAt s (endAt s at))) ih
     go false false ih = ih n
 
--- what stands behind has a number from n on
-numbered-behind : (n k : ℕ) (pre post : List Standing) (x : Standing) → x .restriction .part ≡ byNumber k → Numbered n (pre ++ (x ∷ post)) → n ≤ k
-numbered-behind n k [] post x e r = subst (NumberedPart n) e (r .0)
-numbered-behind n k (y ∷ pre) post x e r = go (y .restriction .part) (r .0) (r .1) (λ m. numbered-behind m k pre post x e)
+-- the number of a filler is how many came before it
+numbered-behind : (n k : ℕ) (pre post : List Standing) (x : Standing) → x .restriction .part ≡ byNumber k → Numbered n (pre ++ (x ∷ post)) → k ≡ n + ownsOf (restrictionsOf pre)
+unfolding ownsOf
+numbered-behind n k [] post x e r = let z : k ≡ n = subst (NumberedPart n) e (r .0) in omega arith
+numbered-behind n k (y ∷ pre) post x e r = go (y .restriction .part) (r .1) (λ m. numbered-behind m k pre post x e)
   where
-    go : (p : Part) → NumberedPart n p → Numbered (after n p) (pre ++ (x ∷ post)) → ((m : ℕ) → Numbered m (pre ++ (x ∷ post)) → m ≤ k) → n ≤ k
-    go (byName m) a b ih = ih n b
-    go (byNumber j) a b ih = let z : suc j ≤ k = ih (suc j) b in omega arith
+    go : (p : Part) → Numbered (after n p) (pre ++ (x ∷ post)) → ((m : ℕ) → Numbered m (pre ++ (x ∷ post)) → k ≡ m + ownsOf (restrictionsOf pre)) → k ≡ n + (ownOne p + ownsOf (restrictionsOf pre))
+    go (byName m) b ih = let z : k ≡ n + ownsOf (restrictionsOf pre) = ih n b in omega arith
+    go (byNumber j) b ih = let z : k ≡ suc n + ownsOf (restrictionsOf pre) = ih (suc n) b in omega arith
 
 numbered-first : (n k : ℕ) (pre post : List Standing) (x : Standing) → x .restriction .part ≡ byNumber k → Numbered n (pre ++ (x ∷ post)) →
     isAmong sameRestriction (x .restriction) (restrictionsOf pre) ≡ false
@@ -190,20 +192,26 @@ numbered-first n k [] post x e r = refl
 numbered-first n k (y ∷ pre) post x e r =
     ap₂ _||_
     (ap (λ (p : Part). sameName (x .restriction .role) (y .restriction .role) && samePart p (y .restriction .part)) e
-    ∙ other (sameName (x .restriction .role) (y .restriction .role)) (y .restriction .part) (r .1))
+    ∙ other (sameName (x .restriction .role) (y .restriction .role)) (y .restriction .part) (r .0) (r .1))
     (numbered-first (after n (y .restriction .part)) k pre post x e (r .1))
   where
     none : (b : Bool) → (b && false) ≡ false
     none true = refl
     none false = refl
 
-    other : (b : Bool) (p : Part) → Numbered (after n p) (pre ++ (x ∷ post)) → (b && samePart (byNumber k) p) ≡ false
-    other b (byName m) z = none b
-    other b (byNumber j) z =
-        let w : suc j ≤ k = numbered-behind (suc j) k pre post x e z in
+    other : (b : Bool) (p : Part) → NumberedPart n p → Numbered (after n p) (pre ++ (x ∷ post)) → (b && samePart (byNumber k) p) ≡ false
+    other b (byName m) y z = none b
+    other b (byNumber j) y z =
+        let w : k ≡ suc n + ownsOf (restrictionsOf pre) = numbered-behind (suc n) k pre post x e z in
         ap (λ (c : Bool). b && c) (ne-eqb k j (λ d. omega arith)) ∙ none b
 
 pub fresh-own : (s : List ℕ) (k : ℕ) (pre post : List Standing) (x : Standing) → standing s ≡ pre ++ (x ∷ post) → x .restriction .part ≡ byNumber k →
     isAmong sameRestriction (x .restriction) (restrictionsOf pre) ≡ false
 unfolding standing
 fresh-own s k pre post x d e = numbered-first 0 k pre post x e (subst (Numbered 0) d (standing-numbered s (suc (length s)) 0 0 0))
+
+pub fresh-number : (s : List ℕ) (k : ℕ) (pre post : List Standing) (x : Standing) → standing s ≡ pre ++ (x ∷ post) → x .restriction .part ≡ byNumber k → k ≡ ownsOf (restrictionsOf pre)
+unfolding standing
+fresh-number s k pre post x d e =
+    let z : k ≡ 0 + ownsOf (restrictionsOf pre) = numbered-behind 0 k pre post x e (subst (Numbered 0) d (standing-numbered s (suc (length s)) 0 0 0)) in
+    omega arith

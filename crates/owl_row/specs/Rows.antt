@@ -8,21 +8,25 @@
 --   alikeAt s r f does k n e == a token of kind k, which does this to the name n, is the role r, and behind byte e stands the filler f
 --   addsRow s does p k n e == such a token at byte p is the role of a restriction that stands nowhere before it
 --   ownHere s does k e    == such a token is the role of a restriction whose filler is no name
+--   freshBefore s limit   == how many restrictions that begin before byte `limit` have a filler that is no name
+--   fillerBy v k i        == a filler as the code tells it, where the fresh variables are numbered from v on
+--   IsFiller s at k i     == it is that of the restriction whose role is the next token after byte `at`
 --   IsNumber s at i       == i is the place of the restriction whose role is the next token after byte `at` among the different ones
 use mathlib.Core.Path.{_≡_}
-use mathlib.Core.Bool.{Bool, _&&_, _||_, not}
+use mathlib.Core.Bool.{Bool, true, false, _&&_, _||_, not}
 use mathlib.Core.List.{List, [], _∷_, _++_}
-use Prim.Native.Nat.{ℕ, suc, _-_}
+use Prim.Native.Nat.{ℕ, suc, _+_, _-_}
 use lib.Dec.{eqb}
 use lib.ListN.{length}
+use Rattle.el.specs.Table.{Filler, topF, constantF, variableF}
 use Rattle.owl.specs.Once.{place, once}
 use Rattle.owl.specs.Tree.{Name}
 use Rattle.owl.specs.Naming.{sameName}
 use Rattle.owl.specs.Token.{kindAt}
 use Rattle.owl.specs.Grammar.{isName}
-use Rattle.owl.specs.Mention.{nameAt}
-use Rattle.owl.specs.Restriction.{byName, Restriction, restricted, Standing, standingAt, standingFrom, standing, restrictionsOf, sameRestriction}
-use Rattle.owl_name.specs.Ordered.{firstOf, differentBefore}
+use Rattle.owl.specs.Mention.{nameAt, namesIn}
+use Rattle.owl.specs.Restriction.{byName, Restriction, restricted, Standing, standingAt, standingFrom, standing, restrictionsOf, ownsOf, sameRestriction, fillerFor}
+use Rattle.owl_name.specs.Ordered.{before, firstOf, differentBefore}
 
 abbrev pub placeIn : Standing → ℕ
 placeIn x = x .place
@@ -50,6 +54,17 @@ addsRow s does p k n e = isName k && (eqb does 4 && (not (isName (kindAt s e)) |
 
 unfoldable pub ownHere : List ℕ → ℕ → ℕ → ℕ → Bool
 ownHere s does k e = isName k && (eqb does 4 && not (isName (kindAt s e)))
+
+unfoldable pub freshBefore : List ℕ → ℕ → ℕ
+freshBefore s limit = ownsOf (restrictionsOf (before placeIn limit (standing s)))
+
+-- 0 top, 1 a constant, 2 an open name, 3 a fresh variable
+unfoldable pub fillerBy : ℕ → ℕ → ℕ → Filler
+fillerBy v k i = elim (eqb k 0) [ true ↦ topF | false ↦ elim (eqb k 1) [ true ↦ constantF i | false ↦ elim (eqb k 2) [ true ↦ variableF i | false ↦ variableF (v + i) ] ] ]
+
+unfoldable pub IsFiller : List ℕ → ℕ → ℕ → ℕ → Type 0
+IsFiller s at k i =
+    (v n : ℕ) (pre post : List Standing) → standing s ≡ pre ++ (standingAt s at n ∷ post) → fillerBy v k i ≡ fillerFor (namesIn s) v (standingAt s at n .restriction .part)
 
 unfoldable pub IsNumber : List ℕ → ℕ → ℕ → Type 0
 IsNumber s at i =

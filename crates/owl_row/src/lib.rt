@@ -5,13 +5,19 @@
 // restriction that it asks about.
 ghost use mathlib.Core.Path.{_≡_};
 ghost use mathlib.Core.List.{[]};
-ghost use Prim.Native.Nat.{ℕ, _≤_};
+ghost use Prim.Native.Nat.{_≤_};
 ghost use lib.ListN.{length};
-ghost use Rattle.owl.specs.Once.{place, once};
+ghost use Rattle.owl.specs.Once.{once};
 ghost use Rattle.owl.specs.Mention.{nameBy};
-ghost use Rattle.owl.specs.Restriction.{byName, restricted, standingAt, standing, restrictionsOf, ownsOf, sameRestriction};
+ghost use Rattle.owl.specs.Restriction.{byName, restricted, standing, restrictionsOf, ownsOf, sameRestriction};
 ghost use Rattle.owl_name.specs.Declared.{oneIf};
-ghost use Rattle.owl_row.specs.Rows.{firstRow, differentRows, namedAt, alikeAt, addsRow, ownHere, IsNumber};
+ghost use Rattle.owl_row.specs.Rows.{firstRow, differentRows, namedAt, alikeAt, addsRow, ownHere, freshBefore, IsNumber, IsFiller};
+
+// A filler: 0 top, 1 a constant, 2 an open name, 3 a fresh variable, each but top with its number among its kind.
+pub struct Filling {
+    pub kind: u8,
+    pub number: usize,
+}
 
 // Whether the next token is this name.
 fn named_at(s: &[u8], at: usize, k: u8, name: &[u8]) -> bool
@@ -170,9 +176,9 @@ fn own_here(s: &[u8], does: u8, kind: u8, end: usize) -> usize
     1
 }
 
-// How many fresh variables a text's table has: one for each filler that is no name.
-pub fn fresh(s: &[u8]) -> usize
-    ensures { λ r. ⌜ r ≡ ownsOf (restrictionsOf (standing (now (s .entry)))) ⌝ }
+// How many restrictions before a byte have a filler that is no name.
+fn fresh_before(s: &[u8], limit: usize) -> usize
+    ensures { λ r. ⌜ r ≡ freshBefore (now (s .entry)) limit ⌝ }
 {
     let mut at = 0;
     let mut does = 0;
@@ -180,12 +186,49 @@ pub fn fresh(s: &[u8]) -> usize
     loop {
         let t = owl_token::token_at(s, at);
         let kind = t.kind;
+        let place = t.place;
         let end = t.end;
         if kind == 0 {
+            return count;
+        }
+        if limit <= place {
             return count;
         }
         count += own_here(s, does, kind, end);
         does = owl_name::sort_after(does, kind);
         at = end;
     }
+}
+
+// How many fresh variables a text's table has: one for each filler that is no name.
+pub fn fresh(s: &[u8]) -> usize
+    ensures { λ r. ⌜ r ≡ ownsOf (restrictionsOf (standing (now (s .entry)))) ⌝ }
+{
+    fresh_before(s, s.len())
+}
+
+// The filler of the restriction whose role is the next token after a byte.
+pub fn filler_of(s: &[u8], at: usize) -> Filling
+    requires { ⌜ at ≤ length (now s) ⌝ }
+    ensures { λ r. ⌜ IsFiller (now (s .entry)) at (r .kind) (r .number) ⌝ }
+{
+    let t = owl_token::token_at(s, at);
+    let place = t.place;
+    let end = t.end;
+    let u = owl_token::token_at(s, end);
+    let j = u.kind;
+    let from = u.place;
+    let to = u.end;
+    if !owl_name::is_name(j) {
+        let number = fresh_before(s, place);
+        return Filling { kind: 3, number };
+    }
+    if owl_name::is_thing(j, &s[from..to]) {
+        return Filling { kind: 0, number: 0 };
+    }
+    let number = owl_name::class_number(s, j, &s[from..to]);
+    if owl_name::is_open(j, &s[from..to]) {
+        return Filling { kind: 2, number };
+    }
+    Filling { kind: 1, number }
 }

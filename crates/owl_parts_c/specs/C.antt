@@ -3,6 +3,8 @@
 --   countsOf s      == how many constants, open names and roles the text s declares
 --   kindBy w        == the kind of the name with the bytes w: 14, a full one, if it begins with `<`, else 13
 --   classOrNone d n == the number of n; 0 for owl:Thing
+--   rowCounts s     == how many different restrictions the text s has, and how many fillers that are no names
+--   FillerIn s at l == the two numbers of l are the filler of the restriction whose role is the next token after byte `at`
 use mathlib.Core.Bool.{true, false}
 use mathlib.Core.List.{List, [], _∷_}
 use Prim.Native.Nat.{ℕ}
@@ -11,7 +13,10 @@ use lib.ListN.{length, getD}
 use Rattle.owl.specs.Tree.{Name}
 use Rattle.owl.specs.Naming.{Names, isThing}
 use Rattle.owl.specs.Mention.{namesIn}
+use Rattle.owl.specs.Once.{once}
+use Rattle.owl.specs.Restriction.{standing, restrictionsOf, ownsOf, sameRestriction}
 use Rattle.owl_name.specs.Declared.{classNumber}
+use Rattle.owl_row.specs.Rows.{IsFiller}
 
 unfoldable pub countsOf : List ℕ → List ℕ
 countsOf s = length (namesIn s .constants) ∷ length (namesIn s .opens) ∷ length (namesIn s .roles) ∷ []
@@ -21,3 +26,9 @@ kindBy w = elim (eqb (getD w 0 0) 60) [ true ↦ 14 | false ↦ 13 ]
 
 unfoldable pub classOrNone : Names → Name → ℕ
 classOrNone d n = elim (isThing n) [ true ↦ 0 | false ↦ classNumber d n ]
+
+unfoldable pub rowCounts : List ℕ → List ℕ
+rowCounts s = length (once sameRestriction [] (restrictionsOf (standing s))) ∷ ownsOf (restrictionsOf (standing s)) ∷ []
+
+unfoldable pub FillerIn : List ℕ → ℕ → List ℕ → Type 0
+FillerIn s at l = IsFiller s at (getD l 0 0) (getD l 1 0)

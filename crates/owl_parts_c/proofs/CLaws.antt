@@ -3,7 +3,7 @@
 --   kind-none, kind-full, kind-short == a name's kind by its first byte
 --   class-none, class-some           == owl:Thing has no number, another name has its own
 --   role-some                        == an object property has its own
---   three                            == three numbers, one by one
+--   three, two                       == numbers, one by one
 use mathlib.Core.Path.{_≡_, refl, sym, ap, ap₂, _∙_}
 use mathlib.Core.Bool.{Bool, true, false}
 use mathlib.Core.List.{List, [], _∷_}
@@ -14,7 +14,7 @@ use borrow.Author.Tests.{eq-eqb, ne-eqb}
 use Rattle.owl.specs.Naming.{Names, isThing, roleNumber}
 use Rattle.owl.specs.Mention.{nameBy}
 use Rattle.owl_name.specs.Declared.{classNumber}
-use Rattle.owl_name_c.specs.C.{kindBy, classOrNone}
+use Rattle.owl_parts_c.specs.C.{kindBy, classOrNone}
 
 pub kind-none : (w : List ℕ) → length w ≡ 0 → 13 ≡ kindBy w
 unfolding kindBy
@@ -45,3 +45,6 @@ role-some d k w e = ap (λ (j : ℕ). roleNumber d (nameBy j w)) e
 
 pub three : (a b c x y z : ℕ) → a ≡ x → b ≡ y → c ≡ z → a ∷ b ∷ c ∷ [] ≡ x ∷ y ∷ z ∷ []
 three a b c x y z d e f = ap₂ (λ (i j : ℕ). i ∷ j ∷ c ∷ []) d e ∙ ap (λ (k : ℕ). x ∷ y ∷ k ∷ []) f
+
+pub two : (a b x y : ℕ) → a ≡ x → b ≡ y → a ∷ b ∷ [] ≡ x ∷ y ∷ []
+two a b x y d e = ap₂ (λ (i j : ℕ). i ∷ j ∷ []) d e

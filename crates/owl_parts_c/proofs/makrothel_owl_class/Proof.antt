@@ -1,9 +1,9 @@
 -- It hands on what `class_number` answers.
 use mathlib.Core.Path.{sym, _∙_}
 use borrow.Author.Needs.{needs}
-use Rattle.owl_name_c.proofs.CLaws as laws
-use Rattle.owl_name_c.proofs.makrothel_owl_class.Statement.{statement}
-use Rattle.owl_name_c.proofs.makrothel_owl_class.Tie as tie
+use Rattle.owl_parts_c.proofs.CLaws as laws
+use Rattle.owl_parts_c.proofs.makrothel_owl_class.Statement.{statement}
+use Rattle.owl_parts_c.proofs.makrothel_owl_class.Tie as tie
 
 returns : tie.Need-returns
 returns c = laws.class-none _ _ _ (c .before .before .kind-by .ensures) (sym (c .before .is-thing .ensures) ∙ c .if1 .taken)

@@ -1,8 +1,11 @@
-// The names of a text, for C, for the runs. A lent slice passes as a pointer and then a length, a lent array as a pointer.
+// The names and rows of a text, for C, for the runs. A lent slice passes as a pointer and then a length, a lent array as a pointer.
 ghost use mathlib.Core.Path.{_≡_};
+ghost use Prim.Native.Nat.{_≤_};
+ghost use lib.ListN.{length};
 ghost use Rattle.owl.specs.Naming.{roleNumber};
 ghost use Rattle.owl.specs.Mention.{nameBy, namesIn, undeclared};
-ghost use Rattle.owl_name_c.specs.C.{countsOf, kindBy, classOrNone};
+ghost use Rattle.owl_row.specs.Rows.{IsNumber};
+ghost use Rattle.owl_parts_c.specs.C.{countsOf, kindBy, classOrNone, rowCounts, FillerIn};
 
 // Returns the byte of the first name that is not declared; the counts of constants, open names and roles are in the lent array.
 #[no_mangle]
@@ -49,4 +52,38 @@ pub extern "C" fn makrothel_owl_role(text: &[u8], name: &[u8]) -> u64
     ensures { λ r. ⌜ r ≡ roleNumber (namesIn (now (text .entry))) (nameBy (kindBy (now (name .entry))) (now (name .entry))) ⌝ }
 {
     owl_name::role_number(text, kind_by(name), name) as u64
+}
+
+// The counts of rows and of fresh variables are in the lent array.
+#[no_mangle]
+pub extern "C" fn makrothel_owl_rows(text: &[u8], counts: &mut [u64; 2])
+    ensures { λ _. ⌜ now (counts .exit) ≡ rowCounts (now (text .entry)) ⌝ }
+{
+    let rows = owl_row::rows(text);
+    let fresh = owl_row::fresh(text);
+    *counts = [rows as u64, fresh as u64];
+}
+
+// Returns the number of the row of the restriction whose role is the next token after a byte; behind the text's end, 0.
+#[no_mangle]
+pub extern "C" fn makrothel_owl_row(text: &[u8], at: usize) -> u64
+    ensures { λ r. ⌜ (at ≤ length (now (text .entry)) → IsNumber (now (text .entry)) at r) ⌝ }
+{
+    if text.len() < at {
+        return 0;
+    }
+    owl_row::row_number(text, at) as u64
+}
+
+// The kind and the number of that row's filler are in the lent array.
+#[no_mangle]
+pub extern "C" fn makrothel_owl_filler(text: &[u8], at: usize, filler: &mut [u64; 2])
+    ensures { λ _. ⌜ (at ≤ length (now (text .entry)) → FillerIn (now (text .entry)) at (now (filler .exit))) ⌝ }
+{
+    if text.len() < at {
+        *filler = [0, 0];
+        return;
+    }
+    let found = owl_row::filler_of(text, at);
+    *filler = [found.kind as u64, found.number as u64];
 }

@@ -1,4 +1,5 @@
-/* Runs the names of OWL texts: texts with known answers, the samples, and drawn files whose answers are kept while they are written. */
+/* Runs the names and rows of OWL texts: texts with known answers, the samples, and drawn files whose answers are kept while they are
+   written. */
 #include "second.h"
 
 int open(const char *path, int how, ...);
@@ -13,6 +14,10 @@ int clock_gettime(int clock, struct timespec *time);
 uint64_t makrothel_owl_names(const unsigned char *text, size_t length, uint64_t *counts);
 uint64_t makrothel_owl_class(const unsigned char *text, size_t length, const unsigned char *name, size_t name_length);
 uint64_t makrothel_owl_role(const unsigned char *text, size_t length, const unsigned char *name, size_t name_length);
+
+void makrothel_owl_rows(const unsigned char *text, size_t length, uint64_t *counts);
+uint64_t makrothel_owl_row(const unsigned char *text, size_t length, size_t at);
+void makrothel_owl_filler(const unsigned char *text, size_t length, size_t at, uint64_t *filler);
 
 static const struct {
     const char *note, *text;
@@ -36,7 +41,7 @@ static const struct {
 static size_t run = 0;
 
 static void fail(const char *note, const char *what, size_t got, size_t expected) {
-    printf("owl names: %s: %s is %zu, expected %zu\n", note, what, got, expected);
+    printf("owl parts: %s: %s is %zu, expected %zu\n", note, what, got, expected);
     exit(1);
 }
 
@@ -64,6 +69,10 @@ static size_t length;
 static size_t used_at[ROOM], used = 0;
 static int used_name[ROOM], used_role[ROOM], class_order[POOL], role_order[POOL], classes, roles;
 
+/* Its restrictions: the byte and the name of the role, and the filler: a name, or where it is none its number among these. */
+static size_t restricted_at[ROOM], restricted = 0;
+static int restricted_role[ROOM], filled_by[ROOM], filled_own[ROOM], owns;
+
 static void put(const char *token) {
     size_t n = strlen(token);
     switch (draw(9)) {
@@ -85,11 +94,14 @@ static void use(int name, int role) {
     used_role[used++] = role;
 }
 
-static void class_expression(int depth) {
-    int i, operands;
-    switch (depth > 4 ? 0 : draw(4)) {
+static void class_expression(int depth);
+
+/* A name, an intersection or a restriction. */
+static void class_of(int sort, int name, int depth) {
+    int i, operands, filler;
+    switch (sort) {
     case 0:
-    case 1: use((int)draw(POOL), 0); break;
+    case 1: use(name, 0); break;
     case 2:
         put("ObjectIntersectionOf");
         put("(");
@@ -99,10 +111,20 @@ static void class_expression(int depth) {
     default:
         put("ObjectSomeValuesFrom");
         put("(");
-        use((int)draw(POOL), 1);
-        class_expression(depth + 1);
+        use((int)draw(4), 1);
+        filler = depth > 4 ? 0 : (int)draw(4);
+        name = (int)draw(draw(2) ? 3 : POOL);
+        restricted_at[restricted] = used_at[used - 1];
+        restricted_role[restricted] = used_name[used - 1];
+        filled_by[restricted] = filler < 2 ? name : -1;
+        filled_own[restricted++] = filler < 2 ? 0 : owns++;
+        class_of(filler, name, depth + 1);
         put(")");
     }
+}
+
+static void class_expression(int depth) {
+    class_of(depth > 4 ? 0 : (int)draw(4), (int)draw(POOL), depth);
 }
 
 static int order_of(const int *order, int count, int name) {
@@ -127,12 +149,43 @@ static int is_thing(int name) { return strcmp(pool[name], "owl:Thing") == 0; }
 
 static int is_open(int name) { return memcmp(pool[name], ":open-", strlen(pool[name]) < 6 ? strlen(pool[name]) : 6) == 0 && strlen(pool[name]) >= 6; }
 
+/* The first restriction that has the row of this one. */
+static size_t first_of(size_t r) {
+    size_t i = 0;
+    while (i < r && (filled_by[r] < 0 || restricted_role[i] != restricted_role[r] || filled_by[i] != filled_by[r])) i++;
+    return i;
+}
+
+static int class_number(int name) {
+    int i, number = 0;
+    for (i = 0; i < classes && class_order[i] != name; i++) number += !is_thing(class_order[i]) && is_open(class_order[i]) == is_open(name);
+    return number;
+}
+
+static void rows_of_drawn_file(void) {
+    uint64_t counts[2], filler[2];
+    size_t r, i, rows = 0;
+    for (r = 0; r < restricted; r++) rows += first_of(r) == r;
+    makrothel_owl_rows(text, length, counts);
+    same("a drawn file", "the number of rows", counts[0], rows);
+    same("a drawn file", "the number of fresh variables", counts[1], (size_t)owns);
+    for (r = 0; r < restricted; r++) {
+        size_t number = 0, first = first_of(r);
+        int name = filled_by[r];
+        for (i = 0; i < first; i++) number += first_of(i) == i;
+        same("a drawn file", "the number of a row", makrothel_owl_row(text, length, restricted_at[r]), number);
+        makrothel_owl_filler(text, length, restricted_at[r], filler);
+        same("a drawn file", "the kind of a filler", filler[0], name < 0 ? 3 : is_thing(name) ? 0 : is_open(name) ? 2 : 1);
+        same("a drawn file", "the number of a filler", filler[1], (size_t)(name < 0 ? filled_own[r] : is_thing(name) ? 0 : class_number(name)));
+    }
+}
+
 static void drawn_file(void) {
     size_t first, place;
     uint64_t counts[3];
     int i, items = (int)draw(14), constants = 0, opens = 0, known = (int)draw(3), name;
-    length = used = 0;
-    classes = roles = 0;
+    length = used = restricted = 0;
+    classes = roles = owns = 0;
     put("Ontology");
     put("(");
     if (draw(3) == 0) put(pool[draw(POOL)]);
@@ -167,12 +220,11 @@ static void drawn_file(void) {
     same("a drawn file", "the number of open names", counts[1], (size_t)opens);
     same("a drawn file", "the number of roles", counts[2], (size_t)roles);
     for (name = 0; name < POOL; name++) {
-        int number = 0;
         const unsigned char *bytes = (const unsigned char *)pool[name];
-        for (i = 0; i < classes && class_order[i] != name; i++) number += !is_thing(class_order[i]) && is_open(class_order[i]) == is_open(name);
-        same(pool[name], "its number as a class", makrothel_owl_class(text, length, bytes, strlen(pool[name])), is_thing(name) ? 0 : (size_t)number);
+        same(pool[name], "its number as a class", makrothel_owl_class(text, length, bytes, strlen(pool[name])), is_thing(name) ? 0 : (size_t)class_number(name));
         same(pool[name], "its number as a role", makrothel_owl_role(text, length, bytes, strlen(pool[name])), (size_t)order_of(role_order, roles, name));
     }
+    rows_of_drawn_file();
 }
 
 static double seconds(void) {
@@ -222,13 +274,36 @@ static void many(unsigned names, int timed) {
     if (timed) printf("names %u, bytes %zu, first undeclared and counts %.1f ms\n", names, length, took * 1e3);
 }
 
+/* So many restrictions, each with a role and a filler of its own, or all with a filler that is no name. */
+static void many_rows(unsigned number, int named) {
+    unsigned i;
+    size_t place;
+    uint64_t counts[2];
+    double began, took;
+    length = 0;
+    plain("Ontology(");
+    for (i = 0; i < number; i++) {
+        numbered("SubClassOf(owl:Thing ObjectSomeValuesFrom(:r", i, named ? " :A))" : " ObjectIntersectionOf(:A :A)))");
+    }
+    plain(")");
+    if (second_check(text, length, &place) != 0) fail("many rows", "the place of its refusal", place, 0);
+    began = seconds();
+    makrothel_owl_rows(text, length, counts);
+    took = seconds() - began;
+    same("many rows", "the number of rows", counts[0], number);
+    same("many rows", "the number of fresh variables", counts[1], named ? 0 : number);
+    printf("restrictions %u, bytes %zu, rows and fresh variables %.1f ms\n", number, length, took * 1e3);
+}
+
 int main(int count, char **args) {
     size_t i;
-    uint64_t counts[3], first;
+    uint64_t counts[3], rows[2], first;
     if (count > 1 && strcmp(args[1], "bench") == 0) {
         many(100, 1);
         many(1000, 1);
         many(1500, 1);
+        many_rows(1000, 1);
+        many_rows(1000, 0);
         return 0;
     }
     for (i = 1; i < (size_t)count; i++) {
@@ -241,7 +316,9 @@ int main(int count, char **args) {
         close(file);
         if (second_check(text, length, &place) != 0) continue;
         first = makrothel_owl_names(text, length, counts);
-        printf("%s %s, constants %u, open names %u, roles %u\n", name ? name + 1 : args[i], first == length ? "all declared" : "not all declared", (unsigned)counts[0], (unsigned)counts[1], (unsigned)counts[2]);
+        makrothel_owl_rows(text, length, rows);
+        printf("%s %s, constants %u, open names %u, roles %u, rows %u, fresh variables %u\n", name ? name + 1 : args[i],
+               first == length ? "all declared" : "not all declared", (unsigned)counts[0], (unsigned)counts[1], (unsigned)counts[2], (unsigned)rows[0], (unsigned)rows[1]);
     }
     for (i = 0; i < sizeof cases / sizeof *cases; i++) {
         const unsigned char *bytes = (const unsigned char *)cases[i].text;

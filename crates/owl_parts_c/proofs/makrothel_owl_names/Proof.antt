@@ -1,9 +1,9 @@
 -- It hands on the answers of four functions.
 use borrow.Author.Needs.{needs}
-use Rattle.owl_name_c.specs.C.{countsOf}
-use Rattle.owl_name_c.proofs.CLaws as laws
-use Rattle.owl_name_c.proofs.makrothel_owl_names.Statement.{statement}
-use Rattle.owl_name_c.proofs.makrothel_owl_names.Tie as tie
+use Rattle.owl_parts_c.specs.C.{countsOf}
+use Rattle.owl_parts_c.proofs.CLaws as laws
+use Rattle.owl_parts_c.proofs.makrothel_owl_names.Statement.{statement}
+use Rattle.owl_parts_c.proofs.makrothel_owl_names.Tie as tie
 
 returns : tie.Need-returns
 unfolding countsOf

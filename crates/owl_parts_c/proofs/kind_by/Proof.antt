@@ -1,8 +1,8 @@
 -- By the first byte.
 use borrow.Author.Needs.{needs}
-use Rattle.owl_name_c.proofs.CLaws as laws
-use Rattle.owl_name_c.proofs.kind_by.Statement.{statement}
-use Rattle.owl_name_c.proofs.kind_by.Tie as tie
+use Rattle.owl_parts_c.proofs.CLaws as laws
+use Rattle.owl_parts_c.proofs.kind_by.Statement.{statement}
+use Rattle.owl_parts_c.proofs.kind_by.Tie as tie
 
 returns : tie.Need-returns
 returns c = laws.kind-none _ (c .if1 .taken)

@@ -22,6 +22,7 @@ pub mod ElevenText
 pub mod UniqueLaws
 pub mod TextCases
 pub mod Mention
+pub mod Mentioned
 pub mod MentionLaws
 pub mod UndeclaredLaws
 pub mod MentionCases
@@ -29,4 +30,5 @@ pub mod DistinctLaws
 pub mod Restriction
 pub mod RestrictionLaws
 pub mod RowLaws
+pub mod RowCases
 pub mod Theorem

@@ -3,9 +3,8 @@
 --   spoken q ts   == the mentions of the tokens ts, where q is what the next name does
 --   name-at       == a token that is a name is the name there
 --   placed-spoken == those of a text's tokens are the text's
---   usesIn C ms   == the uses of a class expression in the order of the text, before ms; so `usesOf`, `mentionsIn` for several, for an item
---   mentionsAll   == the mentions of items
 --   file-spoken   == the mentions of a written file are those of its items
+--   mentions-said == what a text mentions is what the items of its file mention, in order
 --   names-said    == the names that a text declares are those of the file that it says
 --   known-said    == each mention of a text is known exactly if each name of its file's axioms is
 use mathlib.Core.Path.{_≡_, refl, sym, ap, ap₂, subst, _∙_}
@@ -24,6 +23,7 @@ use Rattle.owl.specs.Written.{Token, sign, text, kind, tokenOf, tokenAt,
 use Rattle.owl.specs.Grammar.{isName}
 use Rattle.owl.specs.TextLaws.{kind-at}
 use Rattle.owl.specs.Once.{once}
+use Rattle.owl.specs.Mentioned.{usesIn, usesOf, mentionsIn, mentionsAll}
 use Rattle.owl.specs.Mention.{wordSorts, sortAfter, nameBy, bytesAt, nameAt, Mention, Placed, mentioned, placedAt, placedFrom, placed, mentionsOf, declarations, namesIn, isKnown}
 
 ----------------------------------------------------------------------------------------------------
@@ -101,26 +101,6 @@ placed-spoken s (suc f) at q = go (eqb (kindAt s at) 0) (placed-spoken s f (endA
 ----------------------------------------------------------------------------------------------------
 -- The mentions of a tree
 
-abbrev mutual
-  usesIn : Class → List Mention → List Mention
-  usesIn (named n) ms = mentioned 3 n ∷ ms
-  usesIn (intersectionOf C Cs) ms = usesIn C (usesOf Cs ms)
-  usesIn (someValuesFrom r C) ms = mentioned 4 r ∷ usesIn C ms
-
-  usesOf : Classes → List Mention → List Mention
-  usesOf (last C) ms = usesIn C ms
-  usesOf (more C Cs) ms = usesIn C (usesOf Cs ms)
-
-abbrev mentionsIn : Item → List Mention → List Mention
-mentionsIn (declaration (class n)) ms = mentioned 1 n ∷ ms
-mentionsIn (declaration (objectProperty n)) ms = mentioned 2 n ∷ ms
-mentionsIn (stated (subClassOf C D)) ms = usesIn C (usesIn D ms)
-mentionsIn (stated (equivalentClasses C D)) ms = usesIn C (usesIn D ms)
-
-abbrev mentionsAll : List Item → List Mention
-mentionsAll [] = []
-mentionsAll (i ∷ items) = mentionsIn i (mentionsAll items)
-
 mutual
   unfolding spoken heard isName sortAfter wordSorts nameBy
 
@@ -175,7 +155,7 @@ file-spoken f =
     ∙ head-spoken (f .head) (writtenItems (f .items) (‹right› ∷ []))
     ∙ items-spoken (f .items) 0
 
-mentions-said : (s : List ℕ) (f : File) → Says s f → mentionsOf (placed s) ≡ mentionsAll (f .items)
+pub mentions-said : (s : List ℕ) (f : File) → Says s f → mentionsOf (placed s) ≡ mentionsAll (f .items)
 unfolding Says tokens placed
 mentions-said s f e = placed-spoken s (suc (length s)) 0 0 ∙ ap (spoken 0) e ∙ file-spoken f
 

@@ -1,0 +1,27 @@
+-- Where a class expression of a text ends.
+--
+--   restTokens s at == the tokens of the text s from byte `at` on
+--   deeper k depth  == how many brackets are open after a token of kind k
+--   skip depth ts   == the tokens of ts behind the one that closes the last bracket
+--   EndsAt s at e   == where the tokens from byte `at` on are a class expression and others, those from byte e on are the others
+use mathlib.Core.Path.{_≡_}
+use mathlib.Core.Bool.{true, false}
+use mathlib.Core.List.{List, [], _∷_}
+use Prim.Native.Nat.{ℕ, suc, _+_, _-_}
+use lib.Dec.{eqb}
+use lib.ListN.{length}
+use Rattle.owl.specs.Tree.{Class}
+use Rattle.owl.specs.Written.{Token, kind, tokensFrom, written}
+
+unfoldable pub restTokens : List ℕ → ℕ → List Token
+restTokens s at = tokensFrom s (suc (length s - at)) at
+
+unfoldable pub deeper : ℕ → ℕ → ℕ
+deeper k depth = elim (eqb k 1) [ true ↦ depth + 1 | false ↦ elim (eqb k 2) [ true ↦ depth - 1 | false ↦ depth ] ]
+
+unfoldable pub skip : ℕ → List Token → List Token
+skip depth [] = []
+skip depth (t ∷ ts) = elim (eqb (deeper (kind t) depth) 0) [ true ↦ ts | false ↦ skip (deeper (kind t) depth) ts ]
+
+unfoldable pub EndsAt : List ℕ → ℕ → ℕ → Type 0
+EndsAt s at e = (C : Class) (rest : List Token) → restTokens s at ≡ written C rest → restTokens s e ≡ rest

@@ -23,12 +23,15 @@ pub mod UniqueLaws
 pub mod TextCases
 pub mod Mention
 pub mod Mentioned
+pub mod Restriction
+pub mod Said
 pub mod MentionLaws
 pub mod UndeclaredLaws
 pub mod MentionCases
 pub mod DistinctLaws
-pub mod Restriction
 pub mod RestrictionLaws
 pub mod RowLaws
 pub mod RowCases
+pub mod Conjunct
+pub mod ConjunctLaws
 pub mod Theorem

@@ -23,15 +23,12 @@ use Rattle.owl.specs.Written.{Token, sign, text, kind, tokenOf, tokenAt,
 use Rattle.owl.specs.Grammar.{isName}
 use Rattle.owl.specs.TextLaws.{kind-at}
 use Rattle.owl.specs.Once.{once}
+use Rattle.owl.specs.Said.{bytesOf}
 use Rattle.owl.specs.Mentioned.{usesIn, usesOf, mentionsIn, mentionsAll}
 use Rattle.owl.specs.Mention.{wordSorts, sortAfter, nameBy, bytesAt, nameAt, Mention, Placed, mentioned, placedAt, placedFrom, placed, mentionsOf, declarations, namesIn, isKnown}
 
 ----------------------------------------------------------------------------------------------------
 -- The mentions of tokens
-
-abbrev pub bytesOf : Token → List ℕ
-bytesOf (sign k) = []
-bytesOf (text k w) = w
 
 heard : ℕ → ℕ → List ℕ → List Mention → List Mention
 heard q k w ms = elim (isName k && ltb 0 q) [ true ↦ mentioned q (nameBy k w) ∷ ms | false ↦ ms ]

@@ -1,7 +1,5 @@
 -- The rows of a file are those of its text's restrictions, in the order of the text.
 --
---   partOf n ts    == the filler that begins with the first of the tokens ts
---   saidBy q n ts  == the restrictions of the tokens ts
 --   standing-said  == those of a text's tokens are the text's
 --   class-rows, item-rows, .. == the rows of a construct, before those of what stands behind it
 --   rows-said      == the rows of a text's restrictions are those of the file that it says
@@ -23,31 +21,13 @@ use Rattle.owl.specs.Written.{Token, kind, tokenAt, tokensFrom, tokens, 
 use Rattle.owl.specs.Grammar.{isName}
 use Rattle.owl.specs.TextLaws.{kind-at}
 use Rattle.owl.specs.Mention.{wordSorts, sortAfter, nameBy, nameAt}
-use Rattle.owl.specs.MentionLaws.{bytesOf, name-at}
+use Rattle.owl.specs.MentionLaws.{name-at}
+use Rattle.owl.specs.Said.{bytesOf, partBy, partOf, ownOf, saidBy}
 use Rattle.owl.specs.Flattening.{Concept, topC, constantC, variableC, nameOf, conceptOf, conceptsOf, own, fresh, fillerOf, rowOf, rowsOf, Statement, statementsOf, rowsIn, eachOf, freshAll}
-use Rattle.owl.specs.Restriction.{Part, byName, byNumber, Restriction, restricted, partAt, ownAt, Standing, standingAt, standingFrom, standing, restrictionsOf, ownOne, ownsOf, nameFiller, fillerFor, rowFor, rowsFor}
+use Rattle.owl.specs.Restriction.{byName, byNumber, Restriction, restricted, partAt, ownAt, Standing, standingAt, standingFrom, standing, restrictionsOf, ownOne, ownsOf, nameFiller, fillerFor, rowFor, rowsFor}
 
 ----------------------------------------------------------------------------------------------------
 -- The restrictions of tokens
-
-unfoldable pub partBy : ℕ → Bool → Name → Part
-partBy n b m = elim b [ true ↦ byName m | false ↦ byNumber n ]
-
-unfoldable pub partOf : ℕ → List Token → Part
-partOf n [] = byNumber n
-partOf n (t ∷ ts) = partBy n (isName (kind t)) (nameBy (kind t) (bytesOf t))
-
-unfoldable pub ownOf : List Token → ℕ
-ownOf [] = 1
-ownOf (t ∷ ts) = elim (isName (kind t)) [ true ↦ 0 | false ↦ 1 ]
-
-unfoldable pub saidBy : ℕ → ℕ → List Token → List Restriction
-saidBy q n [] = []
-saidBy q n (t ∷ ts) =
-    elim (isName (kind t) && eqb q 4) [
-      | true ↦ restricted (nameBy (kind t) (bytesOf t)) (partOf n ts) ∷ saidBy (sortAfter q (kind t)) (n + ownOf ts) ts
-      | false ↦ saidBy (sortAfter q (kind t)) n ts
-    ]
 
 -- what a token says of a filler
 part-token : (s : List ℕ) (at n : ℕ) (ts : List Token) → (partAt s at n ≡ partOf n (tokenAt s at ∷ ts)) × (ownAt s at ≡ ownOf (tokenAt s at ∷ ts))
@@ -125,10 +105,10 @@ standing-said s (suc f) at q n h l = go (eqb (kindAt s at) 0) refl (λ m. standi
 ----------------------------------------------------------------------------------------------------
 -- The rows of a tree
 
-plus-none : (n k : ℕ) → k ≡ 0 → n ≡ n + k
+pub plus-none : (n k : ℕ) → k ≡ 0 → n ≡ n + k
 plus-none n k e = omega arith
 
-plus-three : (a b c : ℕ) → a + b + c ≡ a + (b + c)
+pub plus-three : (a b c : ℕ) → a + b + c ≡ a + (b + c)
 plus-three a b c = omega arith
 
 head-said : (h : Head) (rest : List Token) → saidBy 0 0 (writtenHead h rest) ≡ saidBy 0 0 rest
@@ -158,7 +138,7 @@ text-said s f e = standing-said s (suc (length s)) 0 0 0 (omega arith) (omega ar
 
 module _ (d : Names) (v : ℕ) where
   -- a name is a concept without rows
-  name-flat : (m : Name) (n : ℕ) → (rowsOf n (nameOf d m) ≡ []) × (fresh (nameOf d m) ≡ 0) × (own (nameOf d m) ≡ 0) × (fillerOf n (nameOf d m) ≡ nameFiller d m)
+  pub name-flat : (m : Name) (n : ℕ) → (rowsOf n (nameOf d m) ≡ []) × (fresh (nameOf d m) ≡ 0) × (own (nameOf d m) ≡ 0) × (fillerOf n (nameOf d m) ≡ nameFiller d m)
   unfolding nameOf nameFiller
   name-flat m n = go (isThing m) (isOpen m)
     where
@@ -172,7 +152,7 @@ module _ (d : Names) (v : ℕ) where
       go false false = (refl, refl, refl, refl)
 
   -- a filler is told by its first token
-  part-class : (C : Class) (n : ℕ) (rest : List Token) →
+  pub part-class : (C : Class) (n : ℕ) (rest : List Token) →
       (fillerFor d v (partOf n (written C rest)) ≡ fillerOf (v + n) (conceptOf d C)) × (ownOf (written C rest) ≡ own (conceptOf d C)) × (ownOne (partOf n (written C rest)) ≡ own (conceptOf d C))
   unfolding partOf ownOf partBy isName nameBy
   part-class (named (short w)) n rest = let f = name-flat (short w) (v + n) in (sym (f .3), sym (f .2), sym (f .2))

@@ -30,7 +30,8 @@ use Rattle.owl.specs.Grammar.{isName}
 use Rattle.owl.specs.Mention.{wordSorts, sortAfter, nameBy}
 use Rattle.owl.specs.Flattening.{sameFiller, sameRow, rowsAll}
 use Rattle.owl.specs.Restriction.{Part, byName, byNumber, Restriction, restricted, standing, restrictionsOf, samePart, sameRestriction, nameFiller, fillerFor, rowFor, rowsFor, partKnown, isKnownIn, rowsOfFile}
-use Rattle.owl.specs.RestrictionLaws.{partBy, partOf, ownOf, saidBy, text-said, rows-said}
+use Rattle.owl.specs.RestrictionLaws.{text-said, rows-said}
+use Rattle.owl.specs.Said.{partBy, partOf, ownOf, saidBy}
 
 ----------------------------------------------------------------------------------------------------
 -- Names

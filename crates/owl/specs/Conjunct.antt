@@ -3,6 +3,8 @@
 --   Conjunct          == a name of a class, or a restriction
 --   isZero, isOne, less == tests and predecessor of a number
 --   classOf m         == the conjunct of a name, none for owl:Thing
+--   here, endsHere    == the conjunct that a token brings, and whether the class expression ends with it
+--   outerAfter, innerAfter, numberAfter == `outer`, `inner` and n behind a token
 --   conjunctsBy outer inner q n ts == the conjuncts of a class expression whose tokens from here on are ts, where
 --                        `outer` brackets of its intersections and `inner` brackets of one of its restrictions are open,
 --                        q is what the next name does, and n is the number of the next filler that is no name
@@ -46,35 +48,49 @@ classOf m = elim (isThing m) [ true ↦ [] | false ↦ aClass m ∷ [] ]
 abbrev pub onwards : Bool → List Conjunct → List Conjunct
 onwards ended l = elim ended [ true ↦ [] | false ↦ l ]
 
--- "Inner intersections are spread out and owl:Thing in them dropped"; a restriction is one conjunct, and what its brackets hold is its filler
+-- "Inner intersections are spread out and owl:Thing in them dropped"; a restriction is one conjunct, told by its role, and what its
+-- brackets hold besides is its filler
+unfoldable pub here : ℕ → ℕ → ℕ → Token → List Token → List Conjunct
+here inner q n t ts =
+    elim (isName (kind t)) [
+      | true ↦ elim (eqb q 4) [
+        | true ↦ elim (isOne inner) [ true ↦ aRestriction (restricted (nameBy (kind t) (bytesOf t)) (partOf n ts)) ∷ [] | false ↦ [] ]
+        | false ↦ elim (isZero inner) [ true ↦ classOf (nameBy (kind t) (bytesOf t)) | false ↦ [] ]
+      ]
+      | false ↦ []
+    ]
+
+unfoldable pub endsHere : ℕ → ℕ → ℕ → ℕ → Bool
+endsHere outer inner q k =
+    elim (isName k) [
+      | true ↦ elim (eqb q 4) [ true ↦ false | false ↦ isZero inner && isZero outer ]
+      | false ↦ eqb k 2 && elim (isZero inner) [ true ↦ isZero (less outer) | false ↦ isZero (less inner) && isZero outer ]
+    ]
+
+-- the first bracket of a restriction stands before its role
+unfoldable pub outerAfter : ℕ → ℕ → ℕ → ℕ → ℕ
+outerAfter outer inner q k =
+    elim (eqb k 1) [
+      | true ↦ elim (isZero inner && not (eqb q 4)) [ true ↦ suc outer | false ↦ outer ]
+      | false ↦ elim (eqb k 2 && isZero inner) [ true ↦ less outer | false ↦ outer ]
+    ]
+
+unfoldable pub innerAfter : ℕ → ℕ → ℕ → ℕ
+innerAfter inner q k =
+    elim (eqb k 1) [
+      | true ↦ elim (isZero inner && not (eqb q 4)) [ true ↦ inner | false ↦ suc inner ]
+      | false ↦ elim (eqb k 2) [ true ↦ less inner | false ↦ inner ]
+    ]
+
+unfoldable pub numberAfter : ℕ → ℕ → ℕ → List Token → ℕ
+numberAfter q n k ts = elim (isName k && eqb q 4) [ true ↦ n + ownOf ts | false ↦ n ]
+
 unfoldable pub conjunctsBy : ℕ → ℕ → ℕ → ℕ → List Token → List Conjunct
 conjunctsBy outer inner q n [] = []
 conjunctsBy outer inner q n (t ∷ ts) =
-    elim (isName (kind t)) [
-      | true ↦ elim (eqb q 4) [
-        | true ↦ elim (isOne inner) [
-          | true ↦ aRestriction (restricted (nameBy (kind t) (bytesOf t)) (partOf n ts)) ∷ conjunctsBy outer inner (sortAfter q (kind t)) (n + ownOf ts) ts
-          | false ↦ conjunctsBy outer inner (sortAfter q (kind t)) (n + ownOf ts) ts
-        ]
-        | false ↦ elim (isZero inner) [
-          | true ↦ classOf (nameBy (kind t) (bytesOf t)) ++ onwards (isZero outer) (conjunctsBy outer inner (sortAfter q (kind t)) n ts)
-          | false ↦ conjunctsBy outer inner (sortAfter q (kind t)) n ts
-        ]
-      ]
-      | false ↦ elim (eqb (kind t) 1) [
-        | true ↦ elim (isZero inner && not (eqb q 4)) [
-          | true ↦ conjunctsBy (suc outer) inner (sortAfter q (kind t)) n ts
-          | false ↦ conjunctsBy outer (suc inner) (sortAfter q (kind t)) n ts
-        ]
-        | false ↦ elim (eqb (kind t) 2) [
-          | true ↦ elim (isZero inner) [
-            | true ↦ onwards (isZero (less outer)) (conjunctsBy (less outer) inner (sortAfter q (kind t)) n ts)
-            | false ↦ onwards (isZero (less inner) && isZero outer) (conjunctsBy outer (less inner) (sortAfter q (kind t)) n ts)
-          ]
-          | false ↦ conjunctsBy outer inner (sortAfter q (kind t)) n ts
-        ]
-      ]
-    ]
+    here inner q n t ts
+    ++ onwards (endsHere outer inner q (kind t))
+    (conjunctsBy (outerAfter outer inner q (kind t)) (innerAfter inner q (kind t)) (sortAfter q (kind t)) (numberAfter q n (kind t) ts) ts)
 
 unfoldable pub conjunctsIn : ℕ → List Token → List Conjunct
 conjunctsIn n ts = conjunctsBy 0 0 3 n ts

@@ -18,7 +18,7 @@ use Rattle.owl.specs.Flattening.{Concept, topC, constantC, variableC, na
 use Rattle.owl.specs.Restriction.{restricted, rowFor}
 use Rattle.owl.specs.RestrictionLaws.{plus-none, plus-three, name-flat, part-class}
 use Rattle.owl.specs.Said.{partOf, ownOf}
-use Rattle.owl.specs.Conjunct.{Conjunct, aClass, aRestriction, classOf, onwards, isZero, conjunctsBy, conjunctsIn, nameEntry, entryFor}
+use Rattle.owl.specs.Conjunct.{Conjunct, aClass, aRestriction, classOf, onwards, isZero, here, endsHere, outerAfter, innerAfter, numberAfter, conjunctsBy, conjunctsIn, nameEntry, entryFor}
 
 module _ (d : Names) where
   -- fresh variables of a restriction and of its filler
@@ -26,7 +26,7 @@ module _ (d : Names) where
   inner-fresh C n rest = ap (λ (k : ℕ). n + k + fresh (conceptOf d C)) (part-class d 0 C n rest .1) ∙ plus-three n (own (conceptOf d C)) (fresh (conceptOf d C))
 
   mutual
-    unfolding conjunctsBy isName sortAfter wordSorts nameBy
+    unfolding conjunctsBy here endsHere outerAfter innerAfter numberAfter isName sortAfter wordSorts nameBy
 
     -- inside a restriction's brackets
     inside-class : (C : Class) (o i n : ℕ) (rest : List Token) → conjunctsBy o (suc i) 3 n (written C rest) ≡ conjunctsBy o (suc i) 3 (n + fresh (conceptOf d C)) rest
@@ -87,7 +87,7 @@ module _ (d : Names) where
     some-entry r C n ts = ap (λ (f : Filler). restriction (place sameRow (rowOf (roleNumber d r) f) rows)) (part-class d v C n ts .0)
 
     mutual
-      unfolding conjunctsBy isName sortAfter wordSorts nameBy
+      unfolding conjunctsBy here endsHere outerAfter innerAfter numberAfter isName sortAfter wordSorts nameBy
 
       class-conjuncts : (C : Class) (o n : ℕ) (rest : List Token) → Spread (conceptOf d C) o n (conjunctsBy o 0 3 n (written C rest)) (λ m. conjunctsBy o 0 3 m rest)
       class-conjuncts (named (short w)) o n rest = name-spread (short w) o n (λ m. conjunctsBy o 0 3 m rest)

@@ -1,16 +1,21 @@
--- Where a class expression of a text ends.
+-- Where a class expression of a text ends, and how many conjuncts it has.
 --
 --   restTokens s at == the tokens of the text s from byte `at` on
 --   deeper k depth  == how many brackets are open after a token of kind k
 --   skip depth ts   == the tokens of ts behind the one that closes the last bracket
 --   EndsAt s at e   == where the tokens from byte `at` on are a class expression and others, those from byte e on are the others
+--   isConjunct inner q k m == a token of kind k, which is the name m and does q, is a conjunct
+--   HasConjuncts s at i == the class expression that begins with the next token after byte `at` has i conjuncts
 use mathlib.Core.Path.{_≡_}
-use mathlib.Core.Bool.{true, false}
+use mathlib.Core.Bool.{Bool, true, false, _&&_, not}
 use mathlib.Core.List.{List, [], _∷_}
 use Prim.Native.Nat.{ℕ, suc, _+_, _-_}
 use lib.Dec.{eqb}
 use lib.ListN.{length}
-use Rattle.owl.specs.Tree.{Class}
+use Rattle.owl.specs.Tree.{Name, Class}
+use Rattle.owl.specs.Naming.{isThing}
+use Rattle.owl.specs.Grammar.{isName}
+use Rattle.owl.specs.Conjunct.{isZero, isOne, conjunctsIn}
 use Rattle.owl.specs.Written.{Token, kind, tokensFrom, written}
 
 unfoldable pub restTokens : List ℕ → ℕ → List Token
@@ -25,3 +30,10 @@ skip depth (t ∷ ts) = elim (eqb (deeper (kind t) depth) 0) [ true ↦ ts | fal
 
 unfoldable pub EndsAt : List ℕ → ℕ → ℕ → Type 0
 EndsAt s at e = (C : Class) (rest : List Token) → restTokens s at ≡ written C rest → restTokens s e ≡ rest
+
+unfoldable pub isConjunct : ℕ → ℕ → ℕ → Name → Bool
+isConjunct inner q k m = isName k && elim (eqb q 4) [ true ↦ isOne inner | false ↦ isZero inner && not (isThing m) ]
+
+-- whatever number the next filler that is no name has
+unfoldable pub HasConjuncts : List ℕ → ℕ → ℕ → Type 0
+HasConjuncts s at i = (n : ℕ) → i ≡ length (conjunctsIn n (restTokens s at))

@@ -1,11 +1,14 @@
-// Class expressions in a text: where one ends.
+// Class expressions in a text: where one ends, and how many conjuncts it has.
 //
 // Constructs nest without bound; there is no recursion and no stack. A class expression is a name, or a word and what its brackets hold, so
 // that its end is found by counting brackets.
 ghost use mathlib.Core.Path.{_≡_};
 ghost use Prim.Native.Nat.{_≤_, _<_};
 ghost use lib.ListN.{length};
-ghost use Rattle.owl_class.specs.Ends.{restTokens, deeper, skip, EndsAt};
+ghost use Rattle.owl.specs.Mention.{nameBy};
+ghost use Rattle.owl.specs.Conjunct.{endsHere, outerAfter, innerAfter};
+ghost use Rattle.owl_name.specs.Declared.{oneIf};
+ghost use Rattle.owl_class.specs.Ends.{restTokens, deeper, skip, EndsAt, isConjunct, HasConjuncts};
 
 // How many brackets are open after a token.
 fn deeper(k: u8, depth: usize) -> usize
@@ -58,4 +61,133 @@ pub fn class_end(s: &[u8], at: usize) -> usize
         return end;
     }
     closed(s, end)
+}
+
+// Whether a token is a conjunct of a class expression: a name that is not owl:Thing, in no restriction, or the role of a restriction that is
+// in no other.
+fn is_conjunct(inner: usize, does: u8, k: u8, token: &[u8]) -> bool
+    ensures { λ r. ⌜ r ≡ isConjunct inner does k (nameBy k (now (token .entry))) ⌝ }
+{
+    if !owl_name::is_name(k) {
+        return false;
+    }
+    if does == 4 {
+        return inner == 1;
+    }
+    if inner != 0 {
+        return false;
+    }
+    !owl_name::is_thing(k, token)
+}
+
+fn one_if(b: bool) -> usize
+    ensures { λ r. ⌜ (r ≡ oneIf b) × (r ≤ 1) ⌝ }
+{
+    if b {
+        return 1;
+    }
+    0
+}
+
+// Whether the class expression ends with a token.
+fn ends_here(outer: usize, inner: usize, does: u8, k: u8) -> bool
+    ensures { λ r. ⌜ r ≡ endsHere outer inner does k ⌝ }
+{
+    if owl_name::is_name(k) {
+        if does == 4 {
+            return false;
+        }
+        if inner != 0 {
+            return false;
+        }
+        return outer == 0;
+    }
+    if k != 2 {
+        return false;
+    }
+    if inner == 0 {
+        return outer <= 1;
+    }
+    if inner != 1 {
+        return false;
+    }
+    outer == 0
+}
+
+// How many brackets of intersections are open behind a token.
+fn outer_after(outer: usize, inner: usize, does: u8, k: u8) -> usize
+    requires { ⌜ outer < 18446744073709551615 ⌝ }
+    ensures { λ r. ⌜ r ≡ outerAfter outer inner does k ⌝ }
+{
+    if k == 1 {
+        if inner != 0 {
+            return outer;
+        }
+        if does == 4 {
+            return outer;
+        }
+        return outer + 1;
+    }
+    if k != 2 {
+        return outer;
+    }
+    if inner != 0 {
+        return outer;
+    }
+    if outer == 0 {
+        return 0;
+    }
+    outer - 1
+}
+
+// How many brackets of a restriction are open behind a token.
+fn inner_after(inner: usize, does: u8, k: u8) -> usize
+    requires { ⌜ inner < 18446744073709551615 ⌝ }
+    ensures { λ r. ⌜ r ≡ innerAfter inner does k ⌝ }
+{
+    if k == 1 {
+        if inner != 0 {
+            return inner + 1;
+        }
+        if does == 4 {
+            return 1;
+        }
+        return 0;
+    }
+    if k != 2 {
+        return inner;
+    }
+    if inner == 0 {
+        return 0;
+    }
+    inner - 1
+}
+
+// How many conjuncts the class expression has that begins with the next token after a byte.
+pub fn conjuncts(s: &[u8], from: usize) -> usize
+    requires { ⌜ from ≤ length (now s) ⌝ }
+    ensures { λ r. ⌜ HasConjuncts (now (s .entry)) from r ⌝ }
+{
+    let mut at = from;
+    let mut outer = 0;
+    let mut inner = 0;
+    let mut does = 3;
+    let mut count = 0;
+    loop {
+        let t = owl_token::token_at(s, at);
+        let kind = t.kind;
+        let place = t.place;
+        let end = t.end;
+        if kind == 0 {
+            return count;
+        }
+        count += one_if(is_conjunct(inner, does, kind, &s[place..end]));
+        if ends_here(outer, inner, does, kind) {
+            return count;
+        }
+        outer = outer_after(outer, inner, does, kind);
+        inner = inner_after(inner, does, kind);
+        does = owl_name::sort_after(does, kind);
+        at = end;
+    }
 }

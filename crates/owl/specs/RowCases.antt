@@ -22,29 +22,29 @@ use Rattle.owl.specs.UndeclaredLaws.{undeclared-means}
 use Rattle.owl.specs.Restriction.{partAt, ownAt, standingFrom, standing, sameRestriction, nameFiller, rowFor, rowsOfFile}
 use Rattle.owl.specs.RowLaws.{rows-once}
 
-abbrev text : List ℕ
+abbrev pub text : List ℕ
 text =
     79 ∷ 110 ∷ 116 ∷ 111 ∷ 108 ∷ 111 ∷ 103 ∷ 121 ∷ 40 ∷ 68 ∷ 101 ∷ 99 ∷ 108 ∷ 97 ∷ 114 ∷ 97 ∷ 116 ∷ 105 ∷ 111 ∷ 110 ∷ 40 ∷ 67 ∷ 108 ∷ 97 ∷ 115 ∷ 115 ∷ 40 ∷ 58 ∷ 65 ∷ 41 ∷ 41 ∷ 68 ∷ 101 ∷ 99 ∷ 108 ∷ 97 ∷ 114 ∷ 97 ∷ 116 ∷ 105 ∷ 111 ∷ 110 ∷ 40 ∷ 67 ∷ 108 ∷ 97 ∷ 115 ∷ 115 ∷ 40 ∷ 58 ∷ 66 ∷ 41 ∷ 41 ∷ 68 ∷ 101 ∷ 99 ∷ 108 ∷ 97 ∷ 114 ∷ 97 ∷ 116 ∷ 105 ∷ 111 ∷ 110 ∷ 40 ∷ 67 ∷ 108 ∷ 97 ∷ 115 ∷ 115 ∷ 40 ∷ 58 ∷ 111 ∷ 112 ∷ 101 ∷ 110 ∷ 45 ∷ 88 ∷ 41 ∷ 41 ∷ 68 ∷ 101 ∷ 99 ∷ 108 ∷ 97 ∷ 114 ∷ 97 ∷ 116 ∷ 105 ∷ 111 ∷ 110 ∷ 40 ∷ 79 ∷ 98 ∷ 106 ∷ 101 ∷ 99 ∷ 116 ∷ 80 ∷ 114 ∷ 111 ∷ 112 ∷ 101 ∷ 114 ∷ 116 ∷ 121 ∷ 40 ∷ 58 ∷ 114 ∷ 41 ∷ 41 ∷ 68 ∷ 101 ∷ 99 ∷ 108 ∷ 97 ∷ 114 ∷ 97 ∷ 116 ∷ 105 ∷ 111 ∷ 110 ∷ 40 ∷ 79 ∷ 98 ∷ 106 ∷ 101 ∷ 99 ∷ 116 ∷ 80 ∷ 114 ∷ 111 ∷ 112 ∷ 101 ∷ 114 ∷ 116 ∷ 121 ∷ 40 ∷ 58 ∷ 115 ∷ 41 ∷ 41 ∷ 83 ∷ 117 ∷ 98 ∷ 67 ∷ 108 ∷ 97 ∷ 115 ∷ 115 ∷ 79 ∷ 102 ∷ 40 ∷ 58 ∷ 111 ∷ 112 ∷ 101 ∷ 110 ∷ 45 ∷ 88 ∷ 32 ∷ 79 ∷ 98 ∷ 106 ∷ 101 ∷ 99 ∷ 116 ∷ 83 ∷ 111 ∷ 109 ∷ 101 ∷ 86 ∷ 97 ∷ 108 ∷ 117 ∷ 101 ∷ 115 ∷ 70 ∷ 114 ∷ 111 ∷ 109 ∷ 40 ∷ 58 ∷ 114 ∷ 32 ∷ 79 ∷ 98 ∷ 106 ∷ 101 ∷ 99 ∷ 116 ∷ 83 ∷ 111 ∷ 109 ∷ 101 ∷ 86 ∷ 97 ∷ 108 ∷ 117 ∷ 101 ∷ 115 ∷ 70 ∷ 114 ∷ 111 ∷ 109 ∷ 40 ∷ 58 ∷ 115 ∷ 32 ∷ 79 ∷ 98 ∷ 106 ∷ 101 ∷ 99 ∷ 116 ∷ 73 ∷ 110 ∷ 116 ∷ 101 ∷ 114 ∷ 115 ∷ 101 ∷ 99 ∷ 116 ∷ 105 ∷ 111 ∷ 110 ∷ 79 ∷ 102 ∷ 40 ∷ 58 ∷ 65 ∷ 32 ∷ 58 ∷ 66 ∷ 41 ∷ 41 ∷ 41 ∷ 41 ∷ 83 ∷ 117 ∷ 98 ∷ 67 ∷ 108 ∷ 97 ∷ 115 ∷ 115 ∷ 79 ∷ 102 ∷ 40 ∷ 58 ∷ 111 ∷ 112 ∷ 101 ∷ 110 ∷ 45 ∷ 88 ∷ 32 ∷ 79 ∷ 98 ∷ 106 ∷ 101 ∷ 99 ∷ 116 ∷ 83 ∷ 111 ∷ 109 ∷ 101 ∷ 86 ∷ 97 ∷ 108 ∷ 117 ∷ 101 ∷ 115 ∷ 70 ∷ 114 ∷ 111 ∷ 109 ∷ 40 ∷ 58 ∷ 115 ∷ 32 ∷ 58 ∷ 65 ∷ 41 ∷ 41 ∷ 83 ∷ 117 ∷ 98 ∷ 67 ∷ 108 ∷ 97 ∷ 115 ∷ 115 ∷ 79 ∷ 102 ∷ 40 ∷ 79 ∷ 98 ∷ 106 ∷ 101 ∷ 99 ∷ 116 ∷ 83 ∷ 111 ∷ 109 ∷ 101 ∷ 86 ∷ 97 ∷ 108 ∷ 117 ∷ 101 ∷ 115 ∷ 70 ∷ 114 ∷ 111 ∷ 109 ∷ 40 ∷ 58 ∷ 115 ∷ 32 ∷ 58 ∷ 65 ∷ 41 ∷ 32 ∷ 111 ∷ 119 ∷ 108 ∷ 58 ∷ 84 ∷ 104 ∷ 105 ∷ 110 ∷ 103 ∷ 41 ∷ 41 ∷ []
 
-abbrev A : Name
+abbrev pub A : Name
 A = short (58 ∷ 65 ∷ [])
 
-abbrev B : Name
+abbrev pub B : Name
 B = short (58 ∷ 66 ∷ [])
 
-abbrev r : Name
+abbrev pub r : Name
 r = short (58 ∷ 114 ∷ [])
 
-abbrev s : Name
+abbrev pub s : Name
 s = short (58 ∷ 115 ∷ [])
 
-abbrev X : Name
+abbrev pub X : Name
 X = short (58 ∷ 111 ∷ 112 ∷ 101 ∷ 110 ∷ 45 ∷ 88 ∷ [])
 
-abbrev thing : Name
+abbrev pub thing : Name
 thing = short (111 ∷ 119 ∷ 108 ∷ 58 ∷ 84 ∷ 104 ∷ 105 ∷ 110 ∷ 103 ∷ [])
 
-abbrev file : File
+abbrev pub file : File
 file =
     record {
       prefixes = [];
@@ -61,7 +61,7 @@ file =
           ∷ [];
     }
 
-text-says : Says text file
+pub text-says : Says text file
 unfolding Says tokens tokensFrom tokenAt tokenOf anyOf isAmong place sameBytes isPlain byteClass betweens between blank runLength shapes shaped shape prefixWord ontologyWord declarationWord classWord propertyWord subClassWord equivalentWord intersectionWord someValuesWord keywords wordKind runKind upToClose opensAfter fullKind fullSize markKinds kindOf sizeOf placeAt kindAt endAt
 text-says = refl
 

@@ -1,2 +1,3 @@
 pub mod Owl
 pub mod OwlLaws
+pub mod Instances

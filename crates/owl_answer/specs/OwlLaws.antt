@@ -6,10 +6,10 @@
 --   owl-table   == UNDER 0 the buffer's first bytes are a readable table, the file's, and it has a solving assignment exactly if some substitution makes all axioms hold
 --   owl-none    == where the solver answers "none" to it, no descriptions whatever make all axioms hold
 --   owl-solved  == where it answers "solved", the substitution that the assignment induces makes all axioms hold
-use mathlib.Core.Path.{_≡_, refl, sym, ap, subst, _∙_}
+use mathlib.Core.Path.{_≡_, refl, sym, ap, subst}
 use mathlib.Core.Bool.{Bool, true, false, _&&_}
 use mathlib.Core.Logic.{_↔_}
-use mathlib.Core.List.{List, [], _∷_, _++_}
+use mathlib.Core.List.{List, _++_}
 use Prim.Native.Nat.{ℕ, _+_, _*_, _≤_, _<_}
 use native.Mathlib.Omega.{arith}
 use native.Mathlib.Decide.{ℕ-discrete, decLt, decLe}
@@ -24,7 +24,7 @@ use Rattle.el.specs.OrderLaws.{roleOrder-refl, roleOrder-trans}
 use Rattle.el.specs.Assignment.{Assignment, Solves, induced}
 use Rattle.el.specs.Locality.{Solvable}
 use Rattle.el.specs.Meaning.{Substitution}
-use Rattle.table.specs.Bytes.{countsOf, bytesOf, Within, lineRight, Right, Fits, IsTable}
+use Rattle.table.specs.Bytes.{countsOf, bytesOf, Within, lineRight, Fits, IsTable}
 use Rattle.answer.specs.declared.Answer.the-variants.{Solved, Nothing}
 use Rattle.output.specs.Written.{written}
 use Rattle.makrothel.specs.Numbers.{FirstSolving, NoneSolves, Said}

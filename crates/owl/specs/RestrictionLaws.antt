@@ -49,7 +49,7 @@ part-end s at n e = (
   ap (λ (k : ℕ). elim (isName k) [ true ↦ 0 | false ↦ 1 ]) e,
 )
 
-part-said : (s : List ℕ) (f at n : ℕ) → at ≤ length s → length s < at + f → (partAt s at n ≡ partOf n (tokensFrom s f at)) × (ownAt s at ≡ ownOf (tokensFrom s f at))
+pub part-said : (s : List ℕ) (f at n : ℕ) → at ≤ length s → length s < at + f → (partAt s at n ≡ partOf n (tokensFrom s f at)) × (ownAt s at ≡ ownOf (tokensFrom s f at))
 unfolding tokensFrom
 part-said s zero at n h l = absurd (let z : ⊥ = omega arith in z)
 part-said s (suc f) at n h l = go (eqb (kindAt s at) 0) refl

@@ -1,3 +1,4 @@
 pub mod EndLaws
 pub mod SpreadLaws
 pub mod CountLaws
+pub mod SeekLaws

@@ -1,14 +1,23 @@
-// Class expressions in a text: where one ends, and how many conjuncts it has.
+// Class expressions in a text: where one ends, and its conjuncts.
 //
 // Constructs nest without bound; there is no recursion and no stack. A class expression is a name, or a word and what its brackets hold, so
 // that its end is found by counting brackets.
 ghost use mathlib.Core.Path.{_≡_};
+ghost use mathlib.Core.Bool.{_&&_};
 ghost use Prim.Native.Nat.{_≤_, _<_};
+ghost use lib.Dec.{eqb};
 ghost use lib.ListN.{length};
 ghost use Rattle.owl.specs.Mention.{nameBy};
 ghost use Rattle.owl.specs.Conjunct.{endsHere, outerAfter, innerAfter};
 ghost use Rattle.owl_name.specs.Declared.{oneIf};
 ghost use Rattle.owl_class.specs.Ends.{restTokens, deeper, skip, EndsAt, isConjunct, HasConjuncts};
+ghost use Rattle.owl_class.specs.Conjuncts.{ConjunctIs};
+
+// Where a conjunct is.
+pub struct Found {
+    pub kind: u8,
+    pub at: usize,
+}
 
 // How many brackets are open after a token.
 fn deeper(k: u8, depth: usize) -> usize
@@ -185,6 +194,52 @@ pub fn conjuncts(s: &[u8], from: usize) -> usize
         if ends_here(outer, inner, does, kind) {
             return count;
         }
+        outer = outer_after(outer, inner, does, kind);
+        inner = inner_after(inner, does, kind);
+        does = owl_name::sort_after(does, kind);
+        at = end;
+    }
+}
+
+fn is_sought(one: usize, count: usize, i: usize) -> bool
+    ensures { λ r. ⌜ r ≡ (eqb one 1 && eqb count i) ⌝ }
+{
+    if one != 1 {
+        return false;
+    }
+    count == i
+}
+
+// Conjunct i of the class expression that begins with the next token after a byte. Kind 1: it is the name that is the next token after the
+// byte `at`; 2: it is the restriction whose role that token is; 0: there is none.
+pub fn conjunct(s: &[u8], from: usize, i: usize) -> Found
+    requires { ⌜ from ≤ length (now s) ⌝ }
+    ensures { λ r. ⌜ ConjunctIs (now (s .entry)) from i (r .kind) (r .at) ⌝ }
+{
+    let mut at = from;
+    let mut outer = 0;
+    let mut inner = 0;
+    let mut does = 3;
+    let mut count = 0;
+    loop {
+        let t = owl_token::token_at(s, at);
+        let kind = t.kind;
+        let place = t.place;
+        let end = t.end;
+        if kind == 0 {
+            return Found { kind: 0, at };
+        }
+        let one = one_if(is_conjunct(inner, does, kind, &s[place..end]));
+        if is_sought(one, count, i) {
+            if does == 4 {
+                return Found { kind: 2, at };
+            }
+            return Found { kind: 1, at };
+        }
+        if ends_here(outer, inner, does, kind) {
+            return Found { kind: 0, at };
+        }
+        count += one;
         outer = outer_after(outer, inner, does, kind);
         inner = inner_after(inner, does, kind);
         does = owl_name::sort_after(does, kind);

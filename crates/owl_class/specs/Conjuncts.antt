@@ -1,0 +1,40 @@
+-- One conjunct of a class expression of a text.
+--
+--   conjunctsAt s from n   == the conjuncts of the class expression that begins with the next token after byte `from`, where n is the number of
+--                             the next filler that is no name
+--   conjunctAt s from n i  == the one with the number i
+--   Reached s at q n       == the restrictions of s from byte `at` on are the last ones of s
+--   NameAt s from i at     == conjunct i is the name that is the next token after byte `at`
+--   RoleAt s from i at     == conjunct i is the restriction whose role is the next token after byte `at`, and it is one of those of s
+--   ConjunctIs s from i kind at == kind 1: a name; 2: a restriction; 0: there is no conjunct i
+use mathlib.Core.Path.{_≡_}
+use mathlib.Core.List.{List, [], _∷_, _++_}
+use Prim.Native.Nat.{ℕ, _≤_}
+use lib.ListN.{length, getD}
+use Rattle.owl.specs.Tree.{short}
+use Rattle.owl.specs.Mention.{nameAt}
+use Rattle.owl.specs.Restriction.{Standing, standingAt, standing}
+use Rattle.owl.specs.Conjunct.{Conjunct, aClass, aRestriction, conjunctsIn}
+use Rattle.owl_row.specs.Rows.{restOf}
+use Rattle.owl_class.specs.Ends.{restTokens}
+
+abbrev pub conjunctsAt : List ℕ → ℕ → ℕ → List Conjunct
+conjunctsAt s from n = conjunctsIn n (restTokens s from)
+
+abbrev pub conjunctAt : List ℕ → ℕ → ℕ → ℕ → Conjunct
+conjunctAt s from n i = getD (conjunctsAt s from n) i (aClass (short []))
+
+unfoldable pub Reached : List ℕ → ℕ → ℕ → ℕ → Type 0
+Reached s at q n = (pre : List Standing) × (standing s ≡ pre ++ restOf s at q n)
+
+unfoldable pub NameAt : List ℕ → ℕ → ℕ → ℕ → Type 0
+NameAt s from i at = (n : ℕ) → conjunctAt s from n i ≡ aClass (nameAt s at)
+
+unfoldable pub RoleAt : List ℕ → ℕ → ℕ → ℕ → Type 0
+RoleAt s from i at =
+    (n : ℕ) → Reached s from 3 n →
+    (m : ℕ) × (pre : List Standing) × (post : List Standing) × (standing s ≡ pre ++ (standingAt s at m ∷ post)) × (conjunctAt s from n i ≡ aRestriction (standingAt s at m .restriction))
+
+unfoldable pub ConjunctIs : List ℕ → ℕ → ℕ → ℕ → ℕ → Type 0
+ConjunctIs s from i kind at =
+    (kind ≡ 1 → NameAt s from i at) × (kind ≡ 2 → RoleAt s from i at) × (kind ≡ 0 → (n : ℕ) → length (conjunctsAt s from n) ≤ i)

@@ -2,3 +2,4 @@ pub mod EndLaws
 pub mod SpreadLaws
 pub mod CountLaws
 pub mod SeekLaws
+pub mod EntryLaws

@@ -171,14 +171,14 @@ seeking-start s from i h = record {
 }
 
 -- there is no conjunct i
-absent : (s : List ℕ) (from i at : ℕ) → ((n : ℕ) → length (conjunctsAt s from n) ≤ i) → ConjunctIs s from i 0 at
+absent : (s : List ℕ) (from i at : ℕ) → at ≤ length s → ((n : ℕ) → length (conjunctsAt s from n) ≤ i) → ConjunctIs s from i 0 at
 unfolding ConjunctIs
-absent s from i at f = ((λ e. absurd (let z : ⊥ = omega arith in z)), (λ e. absurd (let z : ⊥ = omega arith in z)), (λ e. f))
+absent s from i at h f = ((λ e. absurd (let z : ⊥ = omega arith in z)), (λ e. absurd (let z : ⊥ = omega arith in z)), (λ e. f), h, omega arith)
 
 pub seeking-end : (s : List ℕ) (from i at outer inner does count k p e : ℕ) → Seeking s from i at outer inner does count → AtToken s at k p e → k ≡ 0 → ConjunctIs s from i 0 at
 unfolding conjunctsBy
 seeking-end s from i at outer inner does count k p e c t z =
-    absent s from i at (λ n. let l = c .left n in
+    absent s from i at (c .within) (λ n. let l = c .left n in
     let a : length (conjunctsAt s from n) ≡ count + length (conjunctsBy outer inner does (l .0) (restTokens s at)) = l .1 .1 in
     let b : length (conjunctsBy outer inner does (l .0) (restTokens s at)) ≡ 0 = ap (λ (ts : List Token). length (conjunctsBy outer inner does (l .0) ts)) (rest-end s at (sym (t .0) ∙ z)) in
     let f : count ≤ i = c .few in
@@ -196,7 +196,7 @@ pub seeking-none : (s : List ℕ) (from i at outer inner does count k p e : ℕ)
     isConjunct inner does k (nameBy k (take (e - p) (drop p s))) ≡ b → count + oneIf b ≤ i → endsHere outer inner does k ≡ true → ConjunctIs s from i 0 at
 unfolding oneIf
 seeking-none s from i at outer inner does count k p e b c t z d h f =
-    absent s from i at (λ n. let l = c .left n in
+    absent s from i at (c .within) (λ n. let l = c .left n in
     let rest : List Conjunct = conjunctsBy (outerAfter outer inner does (kindAt s at)) (innerAfter inner does (kindAt s at)) (sortAfter does (kindAt s at)) (numberAfter does (l .0) (kindAt s at) (restTokens s (endAt s at))) (restTokens s (endAt s at)) in
     let a : length (conjunctsAt s from n) ≡ count + length (conjunctsBy outer inner does (l .0) (restTokens s at)) = l .1 .1 in
     let y : length (conjunctsBy outer inner does (l .0) (restTokens s at)) ≡ oneIf b =
@@ -255,20 +255,35 @@ hit s from i at outer inner does count k p e n c t z d f =
     ∙ ap (λ (x : List Conjunct). getD x 0 none) (turn s at outer inner does (l .0) (c .within) (λ x. z (t .0 ∙ x)))
     ∙ ap (λ (b : Bool). getD (elim b [ true ↦ conjunctOf s at does (l .0) ∷ [] | false ↦ [] ] ++ onwards (endsHere outer inner does (kindAt s at)) rest) 0 none) (token-is s at inner does k p e true t d)
 
-pub seeking-name : (s : List ℕ) (from i at outer inner does count k p e : ℕ) → Seeking s from i at outer inner does count → AtToken s at k p e → (k ≡ 0 → ⊥) →
-    isConjunct inner does k (nameBy k (take (e - p) (drop p s))) ≡ true → count ≡ i → (does ≡ 4 → ⊥) → ConjunctIs s from i 1 at
-unfolding ConjunctIs NameAt
-seeking-name s from i at outer inner does count k p e c t z d f q = (
-  (λ x n. hit s from i at outer inner does count k p e n c t z d f
-      ∙ ap (λ (b : Bool). elim b [ true ↦ aRestriction (restricted (nameAt s at) (partOf (c .left n .0) (restTokens s (endAt s at)))) | false ↦ aClass (nameAt s at) ]) (ne-eqb does 4 q)),
-  (λ x. absurd (let y : ⊥ = omega arith in y)),
-  (λ x. absurd (let y : ⊥ = omega arith in y)),
-)
-
 name-there : (inner q k : ℕ) (m : Name) → isConjunct inner q k m ≡ true → isName k ≡ true
 unfolding isConjunct
 name-there inner q k m e =
     is-true (isName k) (and-left (isName k) (elim (eqb q 4) [ true ↦ isOne inner | false ↦ isZero inner && not (isThing m) ]) (true-is (isName k && elim (eqb q 4) [ true ↦ isOne inner | false ↦ isZero inner && not (isThing m) ]) e))
+
+not-thing : (inner q k : ℕ) (m : Name) → isConjunct inner q k m ≡ true → (q ≡ 4 → ⊥) → isThing m ≡ false
+unfolding isConjunct
+not-thing inner q k m e h = go (isName k) (isZero inner) (isThing m) (sym (ap (λ (b : Bool). isName k && elim b [ true ↦ isOne inner | false ↦ isZero inner && not (isThing m) ]) (ne-eqb q 4 h)) ∙ e)
+  where
+    go : (a b c : Bool) → (a && (b && not c)) ≡ true → c ≡ false
+    go a b false e = refl
+    go true true true e = sym e
+    go true false true e = sym e
+    go false b true e = sym e
+
+pub seeking-name : (s : List ℕ) (from i at outer inner does count k p e : ℕ) → Seeking s from i at outer inner does count → AtToken s at k p e → (k ≡ 0 → ⊥) →
+    isConjunct inner does k (nameBy k (take (e - p) (drop p s))) ≡ true → count ≡ i → (does ≡ 4 → ⊥) → ConjunctIs s from i 1 at
+unfolding ConjunctIs NameAt
+seeking-name s from i at outer inner does count k p e c t z d f q = (
+  (λ x. (
+    not-thing inner does (kindAt s at) (nameAt s at) (token-is s at inner does k p e true t d) q,
+    λ n. hit s from i at outer inner does count k p e n c t z d f
+        ∙ ap (λ (b : Bool). elim b [ true ↦ aRestriction (restricted (nameAt s at) (partOf (c .left n .0) (restTokens s (endAt s at)))) | false ↦ aClass (nameAt s at) ]) (ne-eqb does 4 q),
+  )),
+  (λ x. absurd (let y : ⊥ = omega arith in y)),
+  (λ x. absurd (let y : ⊥ = omega arith in y)),
+  c .within,
+  omega arith,
+)
 
 pub seeking-role : (s : List ℕ) (from i at outer inner does count k p e : ℕ) → Seeking s from i at outer inner does count → AtToken s at k p e → (k ≡ 0 → ⊥) →
     isConjunct inner does k (nameBy k (take (e - p) (drop p s))) ≡ true → count ≡ i → does ≡ 4 → ConjunctIs s from i 2 at
@@ -286,6 +301,8 @@ seeking-role s from i at outer inner does count k p e c t z d f q = (
             ∙ ap (λ (x : Part). aRestriction (restricted (nameAt s at) x)) (sym (filler s at m (c .within) .0)),
       )),
   (λ x. absurd (let y : ⊥ = omega arith in y)),
+  c .within,
+  omega arith,
 )
 
 ----------------------------------------------------------------------------------------------------

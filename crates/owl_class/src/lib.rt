@@ -11,12 +11,18 @@ ghost use Rattle.owl.specs.Mention.{nameBy};
 ghost use Rattle.owl.specs.Conjunct.{endsHere, outerAfter, innerAfter};
 ghost use Rattle.owl_name.specs.Declared.{oneIf};
 ghost use Rattle.owl_class.specs.Ends.{restTokens, deeper, skip, EndsAt, isConjunct, HasConjuncts};
-ghost use Rattle.owl_class.specs.Conjuncts.{ConjunctIs};
+ghost use Rattle.owl_class.specs.Conjuncts.{ConjunctIs, EntryIs};
 
 // Where a conjunct is.
 pub struct Found {
     pub kind: u8,
     pub at: usize,
+}
+
+// An entry of a line.
+pub struct Entry {
+    pub kind: u8,
+    pub number: usize,
 }
 
 // How many brackets are open after a token.
@@ -245,4 +251,30 @@ pub fn conjunct(s: &[u8], from: usize, i: usize) -> Found
         does = owl_name::sort_after(does, kind);
         at = end;
     }
+}
+
+// The entry of conjunct i in a line. Kind 1: a constant; 2: an open name; 3: a row, each with its number; 0: there is no conjunct i.
+pub fn entry_of(s: &[u8], from: usize, i: usize) -> Entry
+    requires { ⌜ from ≤ length (now s) ⌝ }
+    ensures { λ r. ⌜ EntryIs (now (s .entry)) from i (r .kind) (r .number) ⌝ }
+{
+    let found = conjunct(s, from, i);
+    let kind = found.kind;
+    let at = found.at;
+    if kind == 0 {
+        return Entry { kind: 0, number: 0 };
+    }
+    if kind == 2 {
+        let number = owl_row::row_number(s, at);
+        return Entry { kind: 3, number };
+    }
+    let t = owl_token::token_at(s, at);
+    let j = t.kind;
+    let place = t.place;
+    let end = t.end;
+    let number = owl_name::class_number(s, j, &s[place..end]);
+    if owl_name::is_open(j, &s[place..end]) {
+        return Entry { kind: 2, number };
+    }
+    Entry { kind: 1, number }
 }

@@ -24,7 +24,7 @@ use Rattle.owl.specs.DistinctLaws.{among-last, once-after, place-none, place-on
 use Rattle.owl_name.specs.Ordered.{before, Rising, keys, firstOf, differentBefore}
 use Rattle.owl_name.specs.Declared.{oneIf}
 
-append-one : {A : Type 0} (l : List A) (x : A) (m : List A) → l ++ (x ∷ m) ≡ (l ++ (x ∷ [])) ++ m
+pub append-one : {A : Type 0} (l : List A) (x : A) (m : List A) → l ++ (x ∷ m) ≡ (l ++ (x ∷ [])) ++ m
 append-one [] x m = refl
 append-one (y ∷ l) x m = ap (λ (k : List _). y ∷ k) (append-one l x m)
 

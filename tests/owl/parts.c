@@ -1,4 +1,4 @@
-/* Runs the names and rows of OWL texts: texts with known answers, the samples, and drawn files whose answers are kept while they are
+/* Runs the names, rows and conjuncts of OWL texts: texts with known answers, the samples, and drawn files whose answers are kept while they are
    written. */
 #include "second.h"
 
@@ -18,6 +18,9 @@ uint64_t makrothel_owl_role(const unsigned char *text, size_t length, const unsi
 void makrothel_owl_rows(const unsigned char *text, size_t length, uint64_t *counts);
 uint64_t makrothel_owl_row(const unsigned char *text, size_t length, size_t at);
 void makrothel_owl_filler(const unsigned char *text, size_t length, size_t at, uint64_t *filler);
+
+uint64_t makrothel_owl_conjuncts(const unsigned char *text, size_t length, size_t at);
+void makrothel_owl_entry(const unsigned char *text, size_t length, size_t at, size_t i, uint64_t *entry);
 
 static const struct {
     const char *note, *text;
@@ -73,6 +76,10 @@ static int used_name[ROOM], used_role[ROOM], class_order[POOL], role_order[POOL]
 static size_t restricted_at[ROOM], restricted = 0;
 static int restricted_role[ROOM], filled_by[ROOM], filled_own[ROOM], owns;
 
+/* The two sides of its axioms: a byte before each, and its conjuncts: names, or restrictions as -1 - number. */
+static size_t side_at[ROOM], side_begins[ROOM], sides = 0, conjuncts = 0;
+static int conjunct[ROOM];
+
 static void put(const char *token) {
     size_t n = strlen(token);
     switch (draw(9)) {
@@ -94,18 +101,21 @@ static void use(int name, int role) {
     used_role[used++] = role;
 }
 
-static void class_expression(int depth);
+static int is_thing(int name) { return strcmp(pool[name], "owl:Thing") == 0; }
 
-/* A name, an intersection or a restriction. */
-static void class_of(int sort, int name, int depth) {
+/* A name, an intersection or a restriction. Where its conjuncts are wanted, they are kept. */
+static void class_of(int sort, int name, int depth, int wanted) {
     int i, operands, filler;
     switch (sort) {
     case 0:
-    case 1: use(name, 0); break;
+    case 1:
+        use(name, 0);
+        if (wanted && !is_thing(name)) conjunct[conjuncts++] = name;
+        break;
     case 2:
         put("ObjectIntersectionOf");
         put("(");
-        for (i = 0, operands = 2 + (int)draw(2); i < operands; i++) class_expression(depth + 1);
+        for (i = 0, operands = 2 + (int)draw(2); i < operands; i++) class_of(depth > 4 ? 0 : (int)draw(4), (int)draw(POOL), depth + 1, wanted);
         put(")");
         break;
     default:
@@ -117,14 +127,18 @@ static void class_of(int sort, int name, int depth) {
         restricted_at[restricted] = used_at[used - 1];
         restricted_role[restricted] = used_name[used - 1];
         filled_by[restricted] = filler < 2 ? name : -1;
+        if (wanted) conjunct[conjuncts++] = -1 - (int)restricted;
         filled_own[restricted++] = filler < 2 ? 0 : owns++;
-        class_of(filler, name, depth + 1);
+        class_of(filler, name, depth + 1, 0);
         put(")");
     }
 }
 
-static void class_expression(int depth) {
-    class_of(depth > 4 ? 0 : (int)draw(4), (int)draw(POOL), depth);
+static void side(void) {
+    side_at[sides] = length;
+    side_begins[sides++] = conjuncts;
+    class_of((int)draw(4), (int)draw(POOL), 0, 1);
+    side_begins[sides] = conjuncts;
 }
 
 static int order_of(const int *order, int count, int name) {
@@ -145,8 +159,6 @@ static void declare(int name, int role) {
     if (!role && order_of(class_order, classes, name) == classes) class_order[classes++] = name;
 }
 
-static int is_thing(int name) { return strcmp(pool[name], "owl:Thing") == 0; }
-
 static int is_open(int name) { return memcmp(pool[name], ":open-", strlen(pool[name]) < 6 ? strlen(pool[name]) : 6) == 0 && strlen(pool[name]) >= 6; }
 
 /* The first restriction that has the row of this one. */
@@ -154,6 +166,12 @@ static size_t first_of(size_t r) {
     size_t i = 0;
     while (i < r && (filled_by[r] < 0 || restricted_role[i] != restricted_role[r] || filled_by[i] != filled_by[r])) i++;
     return i;
+}
+
+static size_t row_of(size_t r) {
+    size_t i, number = 0, first = first_of(r);
+    for (i = 0; i < first; i++) number += first_of(i) == i;
+    return number;
 }
 
 static int class_number(int name) {
@@ -164,19 +182,34 @@ static int class_number(int name) {
 
 static void rows_of_drawn_file(void) {
     uint64_t counts[2], filler[2];
-    size_t r, i, rows = 0;
+    size_t r, rows = 0;
     for (r = 0; r < restricted; r++) rows += first_of(r) == r;
     makrothel_owl_rows(text, length, counts);
     same("a drawn file", "the number of rows", counts[0], rows);
     same("a drawn file", "the number of fresh variables", counts[1], (size_t)owns);
     for (r = 0; r < restricted; r++) {
-        size_t number = 0, first = first_of(r);
         int name = filled_by[r];
-        for (i = 0; i < first; i++) number += first_of(i) == i;
-        same("a drawn file", "the number of a row", makrothel_owl_row(text, length, restricted_at[r]), number);
+        same("a drawn file", "the number of a row", makrothel_owl_row(text, length, restricted_at[r]), row_of(r));
         makrothel_owl_filler(text, length, restricted_at[r], filler);
         same("a drawn file", "the kind of a filler", filler[0], name < 0 ? 3 : is_thing(name) ? 0 : is_open(name) ? 2 : 1);
         same("a drawn file", "the number of a filler", filler[1], (size_t)(name < 0 ? filled_own[r] : is_thing(name) ? 0 : class_number(name)));
+    }
+}
+
+static void sides_of_drawn_file(void) {
+    uint64_t entry[2];
+    size_t k, i;
+    for (k = 0; k < sides; k++) {
+        size_t count = side_begins[k + 1] - side_begins[k];
+        same("a drawn file", "the number of conjuncts", makrothel_owl_conjuncts(text, length, side_at[k]), count);
+        for (i = 0; i < count; i++) {
+            int c = conjunct[side_begins[k] + i];
+            makrothel_owl_entry(text, length, side_at[k], i, entry);
+            same("a drawn file", "the kind of an entry", entry[0], c < 0 ? 3 : is_open(c) ? 2 : 1);
+            same("a drawn file", "the number of an entry", entry[1], c < 0 ? row_of((size_t)(-1 - c)) : (size_t)class_number(c));
+        }
+        makrothel_owl_entry(text, length, side_at[k], count, entry);
+        same("a drawn file", "the kind of an entry behind the last", entry[0], 0);
     }
 }
 
@@ -184,7 +217,7 @@ static void drawn_file(void) {
     size_t first, place;
     uint64_t counts[3];
     int i, items = (int)draw(14), constants = 0, opens = 0, known = (int)draw(3), name;
-    length = used = restricted = 0;
+    length = used = restricted = sides = conjuncts = 0;
     classes = roles = owns = 0;
     put("Ontology");
     put("(");
@@ -195,8 +228,8 @@ static void drawn_file(void) {
         else {
             put(draw(2) ? "SubClassOf" : "EquivalentClasses");
             put("(");
-            class_expression(0);
-            class_expression(0);
+            side();
+            side();
             put(")");
         }
     }
@@ -225,6 +258,7 @@ static void drawn_file(void) {
         same(pool[name], "its number as a role", makrothel_owl_role(text, length, bytes, strlen(pool[name])), (size_t)order_of(role_order, roles, name));
     }
     rows_of_drawn_file();
+    sides_of_drawn_file();
 }
 
 static double seconds(void) {

@@ -5,6 +5,7 @@
 --   classOrNone d n == the number of n; 0 for owl:Thing
 --   rowCounts s     == how many different restrictions the text s has, and how many fillers that are no names
 --   FillerIn s at l == the two numbers of l are the filler of the restriction whose role is the next token after byte `at`
+--   EntryIn s at i l == the two numbers of l are the entry of conjunct i of the class expression that begins there
 use mathlib.Core.Bool.{true, false}
 use mathlib.Core.List.{List, [], _∷_}
 use Prim.Native.Nat.{ℕ}
@@ -17,6 +18,7 @@ use Rattle.owl.specs.Once.{once}
 use Rattle.owl.specs.Restriction.{standing, restrictionsOf, ownsOf, sameRestriction}
 use Rattle.owl_name.specs.Declared.{classNumber}
 use Rattle.owl_row.specs.Rows.{IsFiller}
+use Rattle.owl_class.specs.Conjuncts.{EntryIs}
 
 unfoldable pub countsOf : List ℕ → List ℕ
 countsOf s = length (namesIn s .constants) ∷ length (namesIn s .opens) ∷ length (namesIn s .roles) ∷ []
@@ -32,3 +34,6 @@ rowCounts s = length (once sameRestriction [] (restrictionsOf (standing s))) ∷
 
 unfoldable pub FillerIn : List ℕ → ℕ → List ℕ → Type 0
 FillerIn s at l = IsFiller s at (getD l 0 0) (getD l 1 0)
+
+unfoldable pub EntryIn : List ℕ → ℕ → ℕ → List ℕ → Type 0
+EntryIn s at i l = EntryIs s at i (getD l 0 0) (getD l 1 0)

@@ -1,11 +1,12 @@
-// The names and rows of a text, for C, for the runs. A lent slice passes as a pointer and then a length, a lent array as a pointer.
+// The names, rows and conjuncts of a text, for C, for the runs. A lent slice passes as a pointer and then a length, a lent array as a pointer.
 ghost use mathlib.Core.Path.{_≡_};
 ghost use Prim.Native.Nat.{_≤_};
 ghost use lib.ListN.{length};
 ghost use Rattle.owl.specs.Naming.{roleNumber};
 ghost use Rattle.owl.specs.Mention.{nameBy, namesIn, undeclared};
 ghost use Rattle.owl_row.specs.Rows.{IsNumber};
-ghost use Rattle.owl_parts_c.specs.C.{countsOf, kindBy, classOrNone, rowCounts, FillerIn};
+ghost use Rattle.owl_class.specs.Ends.{HasConjuncts};
+ghost use Rattle.owl_parts_c.specs.C.{countsOf, kindBy, classOrNone, rowCounts, FillerIn, EntryIn};
 
 // Returns the byte of the first name that is not declared; the counts of constants, open names and roles are in the lent array.
 #[no_mangle]
@@ -86,4 +87,28 @@ pub extern "C" fn makrothel_owl_filler(text: &[u8], at: usize, filler: &mut [u64
     }
     let found = owl_row::filler_of(text, at);
     *filler = [found.kind as u64, found.number as u64];
+}
+
+// Returns how many conjuncts the class expression has that begins with the next token after a byte; behind the text's end, 0.
+#[no_mangle]
+pub extern "C" fn makrothel_owl_conjuncts(text: &[u8], at: usize) -> u64
+    ensures { λ r. ⌜ (at ≤ length (now (text .entry)) → HasConjuncts (now (text .entry)) at r) ⌝ }
+{
+    if text.len() < at {
+        return 0;
+    }
+    owl_class::conjuncts(text, at) as u64
+}
+
+// The kind and the number of the entry of conjunct i are in the lent array.
+#[no_mangle]
+pub extern "C" fn makrothel_owl_entry(text: &[u8], at: usize, i: usize, entry: &mut [u64; 2])
+    ensures { λ _. ⌜ (at ≤ length (now (text .entry)) → EntryIn (now (text .entry)) at i (now (entry .exit))) ⌝ }
+{
+    if text.len() < at {
+        *entry = [0, 0];
+        return;
+    }
+    let found = owl_class::entry_of(text, at, i);
+    *entry = [found.kind as u64, found.number as u64];
 }

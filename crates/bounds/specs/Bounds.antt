@@ -5,7 +5,6 @@
 --   setBits, setNumbers  == how many bits a set number has, and how many set numbers that makes
 --   setBytes             == how many bytes of the output it takes
 --   maskBits, masks      == the same of a mask of variables
---   places               == how many places of bytes can be held
 --   counts               == how many counts and budgets there are
 use Prim.Native.Nat.{ℕ}
 
@@ -50,9 +49,6 @@ maskBits = 32
 
 abbrev pub masks : ℕ
 masks = 4294967296
-
-abbrev pub places : ℕ
-places = 65536
 
 -- "budget b (a 32-bit number)"
 abbrev pub counts : ℕ

@@ -2,15 +2,6 @@
    written. */
 #include "second.h"
 
-int open(const char *path, int how, ...);
-long read(int file, void *to, size_t length);
-int close(int file);
-
-struct timespec {
-    long seconds, nanoseconds;
-};
-int clock_gettime(int clock, struct timespec *time);
-
 uint64_t makrothel_owl_names(const unsigned char *text, size_t length, uint64_t *counts);
 uint64_t makrothel_owl_class(const unsigned char *text, size_t length, const unsigned char *name, size_t name_length);
 uint64_t makrothel_owl_role(const unsigned char *text, size_t length, const unsigned char *name, size_t name_length);

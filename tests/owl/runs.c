@@ -1,15 +1,6 @@
 /* Runs the check of OWL texts: texts with known verdicts, the samples, and texts on which the second checker must agree. */
 #include "second.h"
 
-int open(const char *path, int how, ...);
-long read(int file, void *to, size_t length);
-int close(int file);
-
-struct timespec {
-    long seconds, nanoseconds;
-};
-int clock_gettime(int clock, struct timespec *time);
-
 uint32_t makrothel_owl_check(const unsigned char *text, size_t length, uint64_t *place);
 
 static const struct {

@@ -21,6 +21,15 @@ int strcmp(const char *one, const char *other);
 char *strstr(const char *text, const char *part);
 char *strrchr(const char *text, int byte);
 int printf(const char *format, ...);
+int open(const char *path, int how, ...);
+long read(int file, void *to, size_t length);
+int close(int file);
+
+struct timespec {
+    long seconds, nanoseconds;
+};
+int clock_gettime(int clock, struct timespec *time);
+
 _Noreturn void exit(int status);
 _Noreturn void abort(void);
 

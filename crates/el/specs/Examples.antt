@@ -19,7 +19,7 @@ abbrev pub line : List Entry → Entry → Line
 line es e = record { left = es; right = e }
 
 abbrev pub p5 : Table
-p5 = record { constants = 0; roles = 1; variables = 1; rows = row 0 (variableF 0) ∷ []; lines = line (variable 0 ∷ []) (restriction 0) ∷ [] }
+p5 = record { constants = 0; roles = 1; variables = 1; roleRows = []; rows = row 0 (variableF 0) ∷ []; lines = line (variable 0 ∷ []) (restriction 0) ∷ [] }
 
 abbrev pub p6 : Table
 p6 =
@@ -27,6 +27,7 @@ p6 =
       constants = 1;
       roles = 1;
       variables = 1;
+      roleRows = [];
       rows = row 0 (variableF 0) ∷ row 0 (constantF 0) ∷ [];
       lines = line (restriction 0 ∷ []) (restriction 1) ∷ [];
     }
@@ -37,6 +38,7 @@ p12 =
       constants = 2;
       roles = 1;
       variables = 1;
+      roleRows = [];
       rows = row 0 (constantF 0) ∷ row 0 (constantF 1) ∷ row 0 (variableF 0) ∷ [];
       lines =
           line (variable 0 ∷ []) (constant 0)
@@ -51,6 +53,7 @@ more =
       constants = 2;
       roles = 2;
       variables = 2;
+      roleRows = [];
       rows = row 0 (variableF 0) ∷ row 0 (constantF 0) ∷ [];
       lines = line (restriction 0 ∷ []) (restriction 1) ∷ [];
     }
@@ -61,6 +64,7 @@ most =
       constants = 2;
       roles = 2;
       variables = 2;
+      roleRows = [];
       rows = row 0 (variableF 0) ∷ row 0 (constantF 0) ∷ row 1 (variableF 1) ∷ [];
       lines = line (restriction 0 ∷ []) (restriction 1) ∷ line (variable 1 ∷ []) (constant 1) ∷ [];
     }

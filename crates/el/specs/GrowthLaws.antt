@@ -17,7 +17,9 @@ use lib.ListN.{length, List·getD-append}
 use Rattle.el.specs.Test.{everyOf}
 use Rattle.el.specs.TestLaws.{and-left, and-right, everyOf-append, everyOf-both}
 use Rattle.el.specs.Description.{meet, below}
-use Rattle.el.specs.Table.{Entry, constant, restriction, variable, Row, Line, Table, rowAt, rowDeclared, entryDeclared, lineDeclared, declared, roleOrder}
+use Rattle.el.specs.Table.{Entry, constant, restriction, variable, Row, Line, Table, rowAt, entryDeclared, lineDeclared, declared, roleOrder}
+use Rattle.el.specs.Roles.{reachesRole}
+use Rattle.el.specs.TableLaws.{lines-declared}
 use Rattle.el.specs.Meaning.{Substitution, rowUnder, entryUnder, leftUnder, holds, makes}
 use Rattle.el.specs.Growth.{Grows}
 use Rattle.el.specs.Locality.{Unifiable, Solvable}
@@ -25,7 +27,7 @@ use Rattle.el.specs.LocalityLaws.{local-iff}
 
 pub order-grown : (t u : Table) → Grows t u → roleOrder u ≡ roleOrder t
 unfolding roleOrder
-order-grown t u g = refl
+order-grown t u g = ap reachesRole (g .roleRows)
 
 -- "Codes keep their meaning by this"
 module _ (t : Table) (more : List Row) (γ : Substitution) where
@@ -49,17 +51,13 @@ module _ (t : Table) (more : List Row) (γ : Substitution) where
       (entry-grown (l .right) (and-right (everyOf (entryDeclared t) (l .left)) (entryDeclared t (l .right)) ok))
 
 module _ (under : ℕ → ℕ → Bool) (t u : Table) (known : T (declared t)) (grows : Grows t u) where
-  lines-known : T (everyOf (lineDeclared t) (t .lines))
-  unfolding declared
-  lines-known = and-right (everyOf (rowDeclared t) (t .rows)) (everyOf (lineDeclared t) (t .lines)) known
-
   holds-in : (γ : Substitution) (l : Line) → T (lineDeclared t l) → holds under (u .rows) γ l ≡ holds under (t .rows) γ l
   holds-in γ l ok = ap (λ (rows : List Row). holds under rows γ l) (grows .rows .1) ∙ holds-grown t (grows .rows .0) γ under l ok
 
   pub growth-back : (γ : Substitution) → T (makes under u γ) → T (makes under t γ)
   unfolding makes
   growth-back γ m =
-      everyOf-both (lineDeclared t) (holds under (u .rows) γ) (holds under (t .rows) γ) (t .lines) (λ l ok h. subst T (holds-in γ l ok) h) lines-known
+      everyOf-both (lineDeclared t) (holds under (u .rows) γ) (holds under (t .rows) γ) (t .lines) (λ l ok h. subst T (holds-in γ l ok) h) (lines-declared t known)
       (and-left (everyOf (holds under (u .rows) γ) (t .lines)) (everyOf (holds under (u .rows) γ) (grows .lines .0))
       (subst T (ap (everyOf (holds under (u .rows) γ)) (grows .lines .1) ∙ everyOf-append (holds under (u .rows) γ) (t .lines) (grows .lines .0)) m))
 
@@ -67,7 +65,7 @@ module _ (under : ℕ → ℕ → Bool) (t u : Table) (known : T (declared t)) (
   unfolding makes
   growth-same e γ m =
       subst (λ (lines : List Line). T (everyOf (holds under (u .rows) γ) lines)) (sym e)
-      (everyOf-both (lineDeclared t) (holds under (t .rows) γ) (holds under (u .rows) γ) (t .lines) (λ l ok h. subst T (sym (holds-in γ l ok)) h) lines-known m)
+      (everyOf-both (lineDeclared t) (holds under (t .rows) γ) (holds under (u .rows) γ) (t .lines) (λ l ok h. subst T (sym (holds-in γ l ok)) h) (lines-declared t known) m)
 
   module _ (under-refl : (r : ℕ) → T (under r r)) (under-trans : (r s w : ℕ) → T (under r s) → T (under s w) → T (under r w)) (known-grown : T (declared u)) where
     pub growth-back-solving : Solvable under u → Solvable under t

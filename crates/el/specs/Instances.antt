@@ -5,12 +5,13 @@
 --   p5-none, p12-none, p12-not-unifiable        == no assignment solves P5, none solves P12, and no substitution makes P12's lines true
 --   p6-solved                                   == X = {A} solves P6
 --   p6-local, p6-local-solves                   == the local assignment of `deep` is X = {A}, and locality says that it solves
+--   ring-reaches, ring-apart                    == over the role rows (0, 2), (2, 1), (2, 0) role 0 reaches role 1, and role 1 does not reach role 0
 --   p6-more, more-most                          == the tables grow
 --   growth-keeps, growth-back-keeps, ..-solving == growth applied
 use mathlib.Core.Path.{_≡_, refl}
 use mathlib.Core.Bool.{Bool, true, false, _&&_, _||_, not}
 use mathlib.Core.Logic.{inl, inr}
-use mathlib.Core.List.{[], _∷_}
+use mathlib.Core.List.{List, [], _∷_}
 use Prim.Native.Nat.{ℕ, zero, suc, _^_, _<_}
 use native.Mathlib.Omega.{arith}
 use lib.Dec.{T, eqb, ltb, eqb→eq, ltb→lt, T-not}
@@ -19,6 +20,8 @@ use Rattle.el.specs.Test.{anyBelow, allBelow, everyOf, bit}
 use Rattle.el.specs.TestLaws.{or-cases, and-left, false-not, allBelow-at}
 use Rattle.el.specs.Description.{sameRole}
 use Rattle.el.specs.OrderLaws.{sameRole-refl, sameRole-trans}
+use Rattle.el.specs.Roles.{RoleRow, ReachesRole, reachesRole}
+use Rattle.el.specs.RoleLaws.{reaches-role}
 use Rattle.el.specs.Table.{Table, rowAt, atoms, declared}
 use Rattle.el.specs.Meaning.{holds, makes}
 use Rattle.el.specs.Assignment.{Assignment, setOf, IsAssignment, depends, path, Reaches, reaches, Acyclic, acyclic, atomUnder, conjoin, setUnder, inducedTo, induced, Solves, solves}
@@ -155,13 +158,27 @@ pub p6-local-solves : (a : Assignment) × IsAssignment p6 a × IsLocal sameRole 
 p6-local-solves = locality sameRole sameRole-refl sameRole-trans p6 p6-declared deep p6-deep
 
 ----------------------------------------------------------------------------------------------------
+-- Roles: more than one step, and a circle of roles
+
+abbrev pub ring : List RoleRow
+ring = record { narrower = 0; wider = 2 } ∷ record { narrower = 2; wider = 1 } ∷ record { narrower = 2; wider = 0 } ∷ []
+
+pub ring-reaches : ReachesRole ring 0 1
+unfolding reachesRole sameRole
+ring-reaches = reaches-role ring 0 1 .0 tt
+
+pub ring-apart : ReachesRole ring 1 0 → ⊥
+unfolding reachesRole sameRole
+ring-apart h = reaches-role ring 1 0 .1 h
+
+----------------------------------------------------------------------------------------------------
 -- Growth
 
 pub p6-more : Grows p6 more
-p6-more = record { constants = omega arith; roles = omega arith; variables = omega arith; rows = ([], refl); lines = ([], refl) }
+p6-more = record { constants = omega arith; roles = omega arith; variables = omega arith; roleRows = refl; rows = ([], refl); lines = ([], refl) }
 
 pub more-most : Grows more most
-more-most = record { constants = omega arith; roles = omega arith; variables = omega arith; rows = (_, refl); lines = (_, refl) }
+more-most = record { constants = omega arith; roles = omega arith; variables = omega arith; roleRows = refl; rows = (_, refl); lines = (_, refl) }
 
 pub growth-keeps : T (makes sameRole more deep)
 growth-keeps = growth-same sameRole p6 more p6-declared p6-more refl deep p6-deep

@@ -1,5 +1,7 @@
 pub mod Test
 pub mod Description
+pub mod Conjuncts
+pub mod Roles
 pub mod Table
 pub mod Meaning
 pub mod Assignment
@@ -14,8 +16,8 @@ pub mod TestLaws
 pub mod BitLaws
 pub mod TableLaws
 pub mod ReachLaws
-pub mod Conjuncts
 pub mod OrderLaws
+pub mod RoleLaws
 pub mod Below
 pub mod NodeLaws
 pub mod OutcomeLaws

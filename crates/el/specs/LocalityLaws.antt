@@ -27,10 +27,10 @@ use Rattle.el.specs.TestLaws.{false-not, or-left, or-right, or-cases, an
 use Rattle.el.specs.Description.{Description, top, name, meet, some, hasName, below}
 use Rattle.el.specs.Conjuncts.{depth}
 use Rattle.el.specs.OrderLaws.{below-left, below-right, below-trans, below-depth}
-use Rattle.el.specs.Table.{Filler, topF, constantF, variableF, Entry, constant, restriction, variable, Line, Table, rowAt, atoms, fillerDeclared, rowDeclared, entryDeclared, lineDeclared, declared}
+use Rattle.el.specs.Table.{Filler, topF, constantF, variableF, Entry, constant, restriction, variable, Line, Table, rowAt, atoms, fillerDeclared, entryDeclared, lineDeclared, declared}
 use Rattle.el.specs.Meaning.{Substitution, fillerUnder, rowUnder, entryUnder, leftUnder, holds, makes}
 use Rattle.el.specs.Assignment.{Assignment, setOf, IsAssignment, isVariable, depends, Reaches, once, then, Acyclic, acyclic, atomUnder, setUnder, induced, Solves, solves}
-use Rattle.el.specs.TableLaws.{row-declared}
+use Rattle.el.specs.TableLaws.{row-declared, lines-declared}
 use Rattle.el.specs.ReachLaws.{acyclic-means}
 use Rattle.el.specs.Rank.{one}
 use Rattle.el.specs.InducedLaws.{conjoin-member, conjoin-greatest, atomUnder-constant, atomUnder-row, induced-equation}
@@ -277,10 +277,10 @@ module _ (under : ℕ → ℕ → Bool) (under-refl : (r : ℕ) → T (under r r
       go (variable z) ok b f = carries-right C C′ f z b
 
   pub local-makes : T (makes under t γ) → T (makes under t (induced t a))
-  unfolding makes declared
+  unfolding makes
   local-makes m =
       everyOf-both (lineDeclared t) (holds under (t .rows) γ) (holds under (t .rows) (induced t a)) (t .lines) local-line
-      (and-right (everyOf (rowDeclared t) (t .rows)) (everyOf (lineDeclared t) (t .lines)) known) m
+      (lines-declared t known) m
 
 ----------------------------------------------------------------------------------------------------
 -- The theorems

@@ -8,8 +8,6 @@
 --   below-refl, below-trans                 == the order is reflexive and transitive, where the roles' is
 --   below-depth                             == what lies below is at least as deep
 --   sameRole-refl, sameRole-trans           == equality of roles is such a relation
---   roleOrder-refl, roleOrder-trans         == the order of a table's roles is reflexive and transitive
---   roleOrder-same, roleOrder-other         == which roles lie under which
 --   joining-is-wrong                        == two restrictions with one role are not one restriction on the joined fillers
 use mathlib.Core.Path.{_≡_, refl, sym, ap, subst}
 use mathlib.Core.Bool.{Bool, true, false, _&&_}
@@ -19,8 +17,6 @@ use Prim.Native.Nat.{ℕ, _≤_, _<_}
 use native.Mathlib.Omega.{arith}
 use lib.Dec.{T, eqb, eqb→eq, eqb-refl}
 use Rattle.el.specs.TestLaws.{or-left, or-right, or-cases, and-make, and-left, and-right}
-use borrow.Author.Tests.{eq-eqb, ne-eqb}
-use Rattle.el.specs.Table.{Table, roleOrder}
 use Rattle.el.specs.Description.{Description, top, name, meet, some, sameRole, hasName, hasSome, below}
 use Rattle.el.specs.Conjuncts.{Among, names, Restriction, restrictions, Serves, Corollary-1, Below, depth}
 
@@ -285,23 +281,6 @@ sameRole-refl r = eqb-refl r
 pub sameRole-trans : (r s u : ℕ) → T (sameRole r s) → T (sameRole s u) → T (sameRole r u)
 unfolding sameRole
 sameRole-trans r s u h k = subst (λ (q : ℕ). T (eqb r q)) (eqb→eq s u k) h
-
--- the order of a table's roles
-pub roleOrder-refl : (t : Table) (r : ℕ) → T (roleOrder t r r)
-unfolding roleOrder
-roleOrder-refl t = sameRole-refl
-
-pub roleOrder-trans : (t : Table) (r s u : ℕ) → T (roleOrder t r s) → T (roleOrder t s u) → T (roleOrder t r u)
-unfolding roleOrder
-roleOrder-trans t = sameRole-trans
-
-pub roleOrder-same : (t : Table) (r s : ℕ) → r ≡ s → roleOrder t r s ≡ true
-unfolding roleOrder sameRole
-roleOrder-same t r s e = eq-eqb r s e
-
-pub roleOrder-other : (t : Table) (r s : ℕ) → (r ≡ s → ⊥) → roleOrder t r s ≡ false
-unfolding roleOrder sameRole
-roleOrder-other t r s n = ne-eqb r s n
 
 -- "Treating two restrictions with one role as one restriction on the joined fillers. P12 rules it out."
 -- some r A and some r B does not lie below some r (A and B), and some r (A and B) does

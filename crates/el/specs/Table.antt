@@ -1,13 +1,13 @@
--- A table, as it is read: counts, restriction rows and lines.
+-- A table, as it is read: counts, role rows, restriction rows and lines.
 --
 --   Filler       == what stands inside a restriction: top, a constant or a variable
 --   Entry        == what stands in a line: a constant, a restriction (by its row's number) or a variable
 --   Row          == a restriction row: a role and a filler
 --   Line         == the left entries and the right one
---   Table        == the counts c, r and v, the rows (there are e) and the lines (there are m)
+--   Table        == the counts c, r and v, the role rows (there are q), the rows (there are e) and the lines (there are m)
 --   rowAt rows k == row k
 --   atoms t      == c + e, how many non-variable atoms there are
---   roleOrder t  == which roles of t lie under which; where there is no order of roles, each under itself alone
+--   roleOrder t  == which roles lie under which over the role rows of t
 --   declared t   == every constant, restriction, variable and role that the table names is declared
 use mathlib.Core.Bool.{Bool, true, _&&_}
 use mathlib.Core.List.{List}
@@ -15,7 +15,7 @@ use Prim.Native.Nat.{ℕ, _+_}
 use lib.Dec.{ltb}
 use lib.ListN.{length, getD}
 use Rattle.el.specs.Test.{everyOf}
-use Rattle.el.specs.Description.{sameRole}
+use Rattle.el.specs.Roles.{RoleRow, reachesRole}
 
 -- "A filler is top, a constant or a variable."
 pub data Filler : Type 0 where
@@ -40,6 +40,7 @@ pub record Table : Type 0 where
   pub constants : ℕ
   pub roles : ℕ
   pub variables : ℕ
+  pub roleRows : List RoleRow
   pub rows : List Row
   pub lines : List Line
 
@@ -50,11 +51,14 @@ rowAt rows k = getD rows k (record { role = 0; filler = topF })
 unfoldable pub atoms : Table → ℕ
 atoms t = t .constants + length (t .rows)
 
--- "C has a restriction with the same role s"
+-- "if its role reaches the other's over these rows in zero or more steps"
 unfoldable pub roleOrder : Table → ℕ → ℕ → Bool
-roleOrder t = sameRole
+roleOrder t = reachesRole (t .roleRows)
 
--- "k < c", "k < e", "k < v", "a role, less than r"
+-- "k < c", "k < e", "k < v", "a role, less than r"; "an undeclared role is 5"
+abbrev pub roleRowDeclared : Table → RoleRow → Bool
+roleRowDeclared t row = ltb (row .narrower) (t .roles) && ltb (row .wider) (t .roles)
+
 abbrev pub fillerDeclared : Table → Filler → Bool
 fillerDeclared t topF = true
 fillerDeclared t (constantF k) = ltb k (t .constants)
@@ -72,4 +76,4 @@ abbrev pub lineDeclared : Table → Line → Bool
 lineDeclared t l = everyOf (entryDeclared t) (l .left) && entryDeclared t (l .right)
 
 unfoldable pub declared : Table → Bool
-declared t = everyOf (rowDeclared t) (t .rows) && everyOf (lineDeclared t) (t .lines)
+declared t = everyOf (roleRowDeclared t) (t .roleRows) && (everyOf (rowDeclared t) (t .rows) && everyOf (lineDeclared t) (t .lines))

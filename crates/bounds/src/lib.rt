@@ -9,6 +9,9 @@ pub type VariableMask = u32;
 // A mask with a bit for each restriction row, as wide as a set number, so that it can be held against one.
 pub type RowMask = SetNumber;
 
+// A mask with a bit for each role.
+pub type RoleMask = u16;
+
 // Where a byte of a readable table stands.
 pub type Place = u16;
 
@@ -17,9 +20,11 @@ pub type Count = u32;
 
 pub const MAX_ATOMS: usize = 24;
 
-pub const MAX_ROLES: u8 = 16;
+pub const MAX_ROLES: usize = 16;
 
 pub const MAX_VARIABLES: usize = 12;
+
+pub const MAX_ROLE_ROWS: usize = 32;
 
 pub const MAX_LINES: usize = 64;
 

@@ -4,6 +4,7 @@
 --   codeOf k             == the code of the kind k
 --   Ranged k, InRange k  == the kind k is of one of the four ranges; and its number fits there
 --   within k n a         == a, where k is below n
+--   roleOf r b           == the role that the byte b is, where it is declared
 --   fillerOf c v b       == the filler that the code b writes, where it is allowed and declared
 --   entryOf c e v b      == the entry that the code b writes, where it is allowed and declared
 --   WritesFiller c v b f, WritesEntry c e v b x == the same as a view: the code b writes f, or x, whose number is declared
@@ -50,6 +51,10 @@ Ranged Other = ⊥
 -- "k < c", "k < e", "k < v"
 unfoldable pub within {ℓ} : {A : Type ℓ} → ℕ → ℕ → A → Option A
 within k n a = cond (ltb k n) (some a) none
+
+-- "a role, less than r"
+unfoldable pub roleOf : ℕ → ℕ → Option ℕ
+roleOf r b = within b r b
 
 -- "A filler is top, a constant or a variable."
 unfoldable pub fillerOfKind : ℕ → ℕ → Kind → Option Filler

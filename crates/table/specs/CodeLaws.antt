@@ -4,22 +4,24 @@
 --   code-kind, kind-code == a code is the code of its kind, and a kind in range is the kind of its code
 --   within-some, within-is == a number that was read is declared, and a declared one is read
 --   filler-writes, entry-writes == the view of what a code writes
---   filler-code, entry-code == a filler, an entry that a code writes has that code, and is declared
---   filler-is, entry-is     == a declared one is written by its code
+--   role-code, filler-code, entry-code == a role, a filler, an entry that a code writes has that code, and is declared
+--   role-is, filler-is, entry-is       == a declared one is written by its code
+--   role-none                          == a role that is not declared
 use mathlib.Core.Path.{_≡_, refl, sym, ap, subst, _∙_}
 use mathlib.Core.Bool.{Bool, true, false, cond}
+use mathlib.Core.Logic.{_↔_}
 use mathlib.Core.Option.{none, some, Option·none-ne-some}
 use Prim.Native.Nat.{ℕ, _+_, _-_, _≤_, _<_}
 use native.Mathlib.Omega.{arith}
 use native.Mathlib.Decide.{decLe, ℕ-discrete}
 use lib.Dec.{T, ltb, lt→ltb, ltb→lt}
 use lib.ListN.{length}
-use borrow.Author.Tests.{ltb-true, le-leb, lt-leb, eq-eqb, ne-eqb}
+use borrow.Author.Tests.{ltb-true, ltb-false, le-ltb, le-leb, lt-leb, eq-eqb, ne-eqb}
 use Rattle.el.specs.TestLaws.{is-true}
 use Rattle.el.specs.Table.{Filler, topF, constantF, variableF, Entry, constant, restriction, variable, Table, fillerDeclared, entryDeclared}
 use Rattle.table.specs.declared.Kind.{Kind}
 use Rattle.table.specs.declared.Kind.the-variants.{Top, Constant, Restriction, Variable, Other}
-use Rattle.table.specs.Code.{kindOf, codeOf, InRange, Ranged, within, fillerOfKind, fillerOf, entryOfKind, entryOf, WritesFiller, fills-top, fills-constant, fills-variable, WritesEntry, enters-constant, enters-restriction, enters-variable}
+use Rattle.table.specs.Code.{kindOf, codeOf, InRange, Ranged, within, roleOf, fillerOfKind, fillerOf, entryOfKind, entryOf, WritesFiller, fills-top, fills-constant, fills-variable, WritesEntry, enters-constant, enters-restriction, enters-variable}
 use Rattle.table.specs.Bytes.{fillerCode, entryCode}
 
 module _ (b : ℕ) where
@@ -89,6 +91,22 @@ within-some k n a x q = go (ltb k n) refl q
 pub within-is : {A : Type 0} (k n : ℕ) (a : A) → T (ltb k n) → within k n a ≡ some a
 unfolding within
 within-is k n a l = rw (is-true (ltb k n) l)
+
+pub role-code : (r b x : ℕ) → roleOf r b ≡ some x → (b ≡ x) × T (ltb x r)
+unfolding roleOf
+role-code r b x q = let w = within-some b r b x q in (w .1, lt→ltb x r (subst (λ (k : ℕ). k < r) (w .1) (w .0)))
+
+pub role-none : (r b : ℕ) → (roleOf r b ≡ none) ↔ (r ≤ b)
+unfolding roleOf within
+role-none r b = ((λ q. go (ltb b r) refl q), λ w. ap (λ (k : Bool). cond k (some b) none) (le-ltb b r w))
+  where
+    go : (k : Bool) → ltb b r ≡ k → cond k (some b) none ≡ none → r ≤ b
+    go true e q = absurd (Option·none-ne-some b (sym q))
+    go false e q = ltb-false b r e
+
+pub role-is : (r x : ℕ) → T (ltb x r) → roleOf r x ≡ some x
+unfolding roleOf
+role-is r x l = within-is x r x l
 
 pub filler-writes : (c v b : ℕ) (f : Filler) → fillerOf c v b ≡ some f → WritesFiller c v b f
 unfolding fillerOf fillerOfKind

@@ -1,5 +1,6 @@
 -- How the bytes of a readable table lie: where each row and each line stands, and what its bytes say.
 --
+--   roleRowAt rows k == role row k
 --   lineAt lines n == line n
 --   lineStart s n  == the byte where line n begins
 --   IsRowFiller s k b == the code b writes the filler of row k
@@ -13,10 +14,14 @@ use mathlib.Core.Option.{some}
 use Prim.Native.Nat.{ℕ, zero, suc, _+_, _≤_, _<_}
 use lib.Dec.{T}
 use lib.ListN.{length, getD}
+use Rattle.el.specs.Roles.{RoleRow}
 use Rattle.el.specs.Table.{Entry, constant, Line, Table, rowAt, declared}
 use Rattle.table.specs.Code.{fillerOf, entryOf}
-use Rattle.bounds.specs.Bounds.{maxAtoms, maxRoles, maxVariables, maxLines, maxLeft}
-use Rattle.table.specs.Reading.{byteAt, headerLength, headerOf, rowStart, fillerPlace, tableOf}
+use Rattle.bounds.specs.Bounds.{maxAtoms, maxRoles, maxVariables, maxLines, maxLeft, maxRoleRows}
+use Rattle.table.specs.Reading.{byteAt, headerLength, headerOf, roleRowStart, widerPlace, rowStart, fillerPlace, tableOf}
+
+unfoldable pub roleRowAt : List RoleRow → ℕ → RoleRow
+roleRowAt rows k = getD rows k (record { narrower = 0; wider = 0 })
 
 unfoldable pub lineAt : List Line → ℕ → Line
 lineAt lines n = getD lines n (record { left = []; right = constant 0 })
@@ -43,13 +48,18 @@ pub record Layout (s : List ℕ) (t : Table) : Type 0 where
   pub constants : t .constants ≡ headerOf s .c
   pub roles : t .roles ≡ headerOf s .r
   pub variables : t .variables ≡ headerOf s .v
+  pub role-rows : length (t .roleRows) ≡ headerOf s .q
   pub rows : length (t .rows) ≡ headerOf s .e
   pub lines : length (t .lines) ≡ headerOf s .m
   pub few-roles : headerOf s .r ≤ maxRoles
   pub few-variables : headerOf s .v ≤ maxVariables
   pub few-atoms : headerOf s .c + headerOf s .e ≤ maxAtoms
   pub few-lines : headerOf s .m ≤ maxLines
+  pub few-role-rows : headerOf s .q ≤ maxRoleRows
   pub header-in : headerLength ≤ length s
+  pub role-row-in : (k : ℕ) → k < headerOf s .q → widerPlace s k < length s
+  pub row-narrower : (k : ℕ) → k < headerOf s .q → roleRowAt (t .roleRows) k .narrower ≡ byteAt s (roleRowStart s k)
+  pub row-wider : (k : ℕ) → k < headerOf s .q → roleRowAt (t .roleRows) k .wider ≡ byteAt s (widerPlace s k)
   pub row-in : (k : ℕ) → k < headerOf s .e → fillerPlace s k < length s
   pub row-role : (k : ℕ) → k < headerOf s .e → rowAt (t .rows) k .role ≡ byteAt s (rowStart s k)
   pub row-filler : (k : ℕ) → k < headerOf s .e → fillerOf (headerOf s .c) (headerOf s .v) (byteAt s (fillerPlace s k)) ≡ some (rowAt (t .rows) k .filler)

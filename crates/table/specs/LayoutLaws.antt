@@ -4,10 +4,11 @@
 --   layout               == a readable table's bytes lie as its table says
 --   readable-header      == a reading's header and table are headerOf and tableOf
 --   refused-readable, readable-is == a verdict is one of the two, and where it is "readable" the reading is
+--   narrower-said, wider-said, role-said, filler-said == what the bytes of a role row and of a row say
 --   start-first, start-next == where the first line begins, and the next one
 --   line-inside, begun-inside == a line lies inside its table
 --   left-many, left-within, left-writes, right-writes == what the bytes of a line say
-use mathlib.Core.Path.{_≡_, refl, sym, ap, subst, _∙_}
+use mathlib.Core.Path.{_≡_, refl, sym, ap, ap₂, subst, _∙_}
 use mathlib.Core.List.{List, []}
 use mathlib.Core.Option.{some}
 use Prim.Native.Nat.{ℕ, zero, suc, _+_, _*_, _≤_, _<_}
@@ -15,22 +16,23 @@ use native.Mathlib.Omega.{arith}
 use native.Mathlib.Numerals.{add-one}
 use lib.Dec.{T, leb}
 use lib.ListN.{length, getD}
-use Rattle.el.specs.Test.{everyOf}
-use Rattle.el.specs.TestLaws.{and-make, and-right, everyOf-both}
-use Rattle.el.specs.Table.{topF, constant, Line, Table, rowAt, rowDeclared, lineDeclared, declared}
+use Rattle.el.specs.TestLaws.{and-right, everyOf-both}
+use Rattle.el.specs.Table.{topF, constant, Line, Table, rowAt, lineDeclared}
+use Rattle.el.specs.TableLaws.{all-declared}
 use Rattle.answer.specs.declared.Answer.{Answer}
 use Rattle.bounds.specs.Bounds.{bounds, maxLeft}
 use Rattle.table.specs.declared.Header.{Header}
 use Rattle.table.specs.declared.Verdict.the-variants.{Refused, Readable}
 use Rattle.table.specs.Code.{fillerOf, entryOf}
-use Rattle.table.specs.Reading.{got, byteAt, headerOf, rowsAt, rowStart, fillerPlace, readRow, readEntry, readLine, tableWith, Reading, refusal, readable, reading, theTable, tableOf, isReadable}
+use Rattle.table.specs.CodeLaws.{role-code}
+use Rattle.table.specs.Reading.{got, byteAt, headerEnd, headerOf, roleRowStart, widerPlace, rowsAt, rowStart, fillerPlace, readRoleRow, readRow, readEntry, readLine, tableWith, Reading, refusal, readable, reading, theTable, tableOf, isReadable}
 use Rattle.table.specs.Bytes.{bytesWith, lineRight}
-use Rattle.table.specs.Standing.{along, RowRead, LineRead, HeaderRead, BodyRead}
+use Rattle.table.specs.Standing.{Many, along, RoleRowRead, RowRead, LineRead, HeaderRead, BodyRead}
 use Rattle.table.specs.ManyLaws.{many-each}
-use Rattle.table.specs.ReadLaws.{row-read, entry-read, line-read, readable-read}
+use Rattle.table.specs.ReadLaws.{code-read, role-row-read, row-read, line-read, header-long, readable-read}
 use Rattle.table.specs.BytesLaws.{first-all, lines-there}
 use Rattle.table.specs.Step.{verdictOf}
-use Rattle.table.specs.Layout.{lineAt, lineStart, Layout, IsEntryCode, LineBegins, AtLine}
+use Rattle.table.specs.Layout.{roleRowAt, lineAt, lineStart, Layout, IsRowFiller, IsEntryCode, LineBegins, AtLine}
 
 -- a step of one byte, of two, of a line
 along-one : (at n : ℕ) → along (λ p. p + 1) at n ≡ at + n
@@ -56,22 +58,39 @@ module _ (s : List ℕ) (h : Header) where
       → ((i : ℕ) → i < length (l .left) → entryOf (h .c) (h .e) (h .v) (byteAt s (at + 1 + i)) ≡ some (getD (l .left) i (constant 0)))
       × (entryOf (h .c) (h .e) (h .v) (byteAt s (at + 1 + byteAt s at)) ≡ some (l .right)) × (at + byteAt s at + 2 ≤ length s) × (end ≡ at + byteAt s at + 2)
   entries-there at l end r =
-      let each = many-each (readEntry s h) (λ p. p + 1) (λ at x end q. entry-read s h at x end q .2) (constant 0) (l .left) (at + 1) (r .mid) (r .left-read) in
+      let each = many-each (readEntry s h) (λ p. p + 1) (λ at x end q. code-read s (entryOf (h .c) (h .e) (h .v)) at x end q .2) (constant 0) (l .left) (at + 1) (r .mid) (r .left-read) in
       let mid : r .mid ≡ at + 1 + byteAt s at = each .1 ∙ along-one (at + 1) (length (l .left)) ∙ ap (λ (k : ℕ). at + 1 + k) (r .left-many) in
-      let right = entry-read s h (r .mid) (l .right) end (r .right-read) in
+      let right = code-read s (entryOf (h .c) (h .e) (h .v)) (r .mid) (l .right) end (r .right-read) in
       let inside : r .mid < length s = right .0 in
       let next : end ≡ r .mid + 1 = right .2 in (
-        (λ i w. ap (λ (p : ℕ). entryOf (h .c) (h .e) (h .v) (byteAt s p)) (sym (along-one (at + 1) i)) ∙ entry-read s h _ _ _ (each .0 i w) .1),
+        (λ i w. ap (λ (p : ℕ). entryOf (h .c) (h .e) (h .v) (byteAt s p)) (sym (along-one (at + 1) i)) ∙ code-read s (entryOf (h .c) (h .e) (h .v)) _ _ _ (each .0 i w) .1),
         ap (λ (p : ℕ). entryOf (h .c) (h .e) (h .v) (byteAt s p)) (sym mid) ∙ right .1,
         omega arith,
         omega arith,
       )
 
 module _ (s : List ℕ) (t : Table) (header : HeaderRead bounds s (headerOf s)) (body : BodyRead bounds s (headerOf s) t) where
+  role-rows-each : ((k : ℕ) → k < length (body .roleRows) → readRoleRow s (headerOf s) (along (λ p. p + 2) (headerEnd (headerOf s)) k) ≡ got (roleRowAt (body .roleRows) k) (along (λ p. p + 2) (headerEnd (headerOf s)) k + 2))
+      × (body .first ≡ along (λ p. p + 2) (headerEnd (headerOf s)) (length (body .roleRows)))
+  unfolding roleRowAt
+  role-rows-each =
+      many-each (readRoleRow s (headerOf s)) (λ p. p + 2) (λ at x end q. role-row-read s (headerOf s) at x end q .next) (record { narrower = 0; wider = 0 })
+      (body .roleRows) (headerEnd (headerOf s)) (body .first) (body .role-rows-read)
+
+  role-row-there : (k : ℕ) → k < headerOf s .q → RoleRowRead s (headerOf s) (roleRowStart s k) (roleRowAt (body .roleRows) k) (roleRowStart s k + 2)
+  role-row-there k w =
+      subst (λ (p : ℕ). RoleRowRead s (headerOf s) p (roleRowAt (body .roleRows) k) (p + 2)) (along-two (headerEnd (headerOf s)) k)
+      (role-row-read s (headerOf s) _ _ _ (role-rows-each .0 k (let e = body .all-role-rows in omega arith)))
+
+  rows-begin : body .first ≡ rowsAt s
+  rows-begin = role-rows-each .1 ∙ along-two (headerEnd (headerOf s)) (length (body .roleRows)) ∙ ap (roleRowStart s) (body .all-role-rows)
+
   rows-each : ((k : ℕ) → k < length (body .rows) → readRow s (headerOf s) (along (λ p. p + 2) (rowsAt s) k) ≡ got (rowAt (body .rows) k) (along (λ p. p + 2) (rowsAt s) k + 2))
       × (body .mid ≡ along (λ p. p + 2) (rowsAt s) (length (body .rows)))
   unfolding rowAt
-  rows-each = many-each (readRow s (headerOf s)) (λ p. p + 2) (λ at x end q. row-read s (headerOf s) at x end q .next) (record { role = 0; filler = topF }) (body .rows) (rowsAt s) (body .mid) (body .rows-read)
+  rows-each =
+      many-each (readRow s (headerOf s)) (λ p. p + 2) (λ at x end q. row-read s (headerOf s) at x end q .next) (record { role = 0; filler = topF })
+      (body .rows) (rowsAt s) (body .mid) (subst (λ (p : ℕ). Many (readRow s (headerOf s)) (body .rows) p (body .mid)) rows-begin (body .rows-read))
 
   row-there : (k : ℕ) → k < headerOf s .e → RowRead s (headerOf s) (rowStart s k) (rowAt (body .rows) k) (rowStart s k + 2)
   row-there k w =
@@ -95,33 +114,41 @@ module _ (s : List ℕ) (t : Table) (header : HeaderRead bounds s (headerOf s)) 
   line-there : (n : ℕ) → n < headerOf s .m → LineRead bounds s (headerOf s) (lineStart s n) (lineAt (body .lines) n) (lineStart s n + byteAt s (lineStart s n) + 2)
   line-there n w = lines-each .0 n (let e = body .all-lines in omega arith)
 
-  laid : Layout s (tableWith (headerOf s) (body .rows) (body .lines))
-  unfolding declared lineRight
+  laid : Layout s (tableWith (headerOf s) (body .roleRows) (body .rows) (body .lines))
+  unfolding lineRight
   laid =
-      let built = tableWith (headerOf s) (body .rows) (body .lines) in
-      let stands = lines-there s (headerOf s) header (body .rows) (body .mid) (body .rows-read) (body .all-rows) (body .lines) (body .end) (body .lines-read) in
+      let built = tableWith (headerOf s) (body .roleRows) (body .rows) (body .lines) in
+      let stands = lines-there s (headerOf s) header (body .roleRows) (body .first) (body .role-rows-read) (body .rows) (body .mid) (body .rows-read) (body .all-rows) (body .lines) (body .end) (body .lines-read) in
+      let long = header-long (headerOf s) in
+      let role : (k : ℕ) (w : k < headerOf s .e) → rowAt (body .rows) k .role ≡ byteAt s (rowStart s k) = λ k w. sym (role-code (headerOf s .r) _ _ (row-there k w .first) .0) in
+      let there : (k : ℕ) → widerPlace s k ≡ roleRowStart s k + 1 = λ k. omega arith in
       record {
         constants = refl;
         roles = refl;
         variables = refl;
+        role-rows = body .all-role-rows;
         rows = body .all-rows;
         lines = body .all-lines;
         few-roles = header .counts .few-roles;
         few-variables = header .counts .few-variables;
         few-atoms = header .counts .few-atoms;
         few-lines = header .counts .few-lines;
-        header-in = header .inside;
+        few-role-rows = header .counts .few-role-rows;
+        header-in = (let w = header .inside in omega arith);
+        role-row-in = λ k w. (let l = role-row-there k w .inside in omega arith);
+        row-narrower = λ k w. sym (role-code (headerOf s .r) _ _ (role-row-there k w .first) .0);
+        row-wider = λ k w. sym (role-code (headerOf s .r) _ _ (role-row-there k w .second) .0) ∙ ap (byteAt s) (sym (there k));
         row-in = λ k w. (let l = row-there k w .inside in omega arith);
-        row-role = λ k w. row-there k w .role;
-        row-filler = λ k w. ap (λ (i : ℕ). fillerOf (headerOf s .c) (headerOf s .v) (byteAt s i)) (let e : fillerPlace s k ≡ rowStart s k + 1 = omega arith in e) ∙ row-there k w .filler;
+        row-role = role;
+        row-filler = λ k w. ap (λ (i : ℕ). fillerOf (headerOf s .c) (headerOf s .v) (byteAt s i)) (let e : fillerPlace s k ≡ rowStart s k + 1 = omega arith in e) ∙ row-there k w .second;
         line-in = λ n w. entries-there s (headerOf s) _ _ _ (line-there n w) .2;
         line-few = λ n w. line-there n w .few;
         line-left = λ n w. line-there n w .left-many;
         line-entry = λ n i w l. entries-there s (headerOf s) _ _ _ (line-there n w) .0 i (let e = line-there n w .left-many in omega arith);
         line-right = λ n w. entries-there s (headerOf s) _ _ _ (line-there n w) .1;
-        line-end = ap (lineStart s) (sym (body .all-lines)) ∙ sym (lines-each .1) ∙ stands .0 .1 ∙ sym (ap length (first-all s (bytesWith (headerOf s) (body .rows) (body .lines)) (body .end) (stands .0) (body .nothing-left)));
+        line-end = ap (lineStart s) (sym (body .all-lines)) ∙ sym (lines-each .1) ∙ stands .0 .1 ∙ sym (ap length (first-all s (bytesWith (headerOf s) (body .roleRows) (body .rows) (body .lines)) (body .end) (stands .0) (body .nothing-left)));
         all-declared =
-            and-make (everyOf (rowDeclared built) (body .rows)) (everyOf (lineDeclared built) (body .lines)) (stands .1 .rows-right)
+            all-declared built (stands .1 .role-rows-right) (stands .1 .rows-right)
             (everyOf-both (lineRight built) (lineRight built) (lineDeclared built) (body .lines) (λ l a d. and-right (leb (length (l .left)) maxLeft) (lineDeclared built l) a) (stands .1 .lines-right) (stands .1 .lines-right));
       }
 
@@ -155,11 +182,27 @@ readable-is s q = go (reading s) q
     go (refusal why) q = absurd (refused-readable why q)
     go (readable h t) q = tt
 
+------------------------------------------------------------------ what the bytes of rows say
+
+module _ (s : List ℕ) (ok : T (isReadable (reading s))) (k at : ℕ) where
+  pub narrower-said : at ≡ headerEnd (headerOf s) → k < headerOf s .q → byteAt s (at + 2 * k) ≡ roleRowAt (tableOf s .roleRows) k .narrower
+  narrower-said e w = ap (λ (p : ℕ). byteAt s (p + 2 * k)) e ∙ sym (layout s ok .row-narrower k w)
+
+  pub wider-said : at ≡ headerEnd (headerOf s) → k < headerOf s .q → byteAt s (at + 1 + 2 * k) ≡ roleRowAt (tableOf s .roleRows) k .wider
+  wider-said e w = ap (λ (p : ℕ). byteAt s (p + 1 + 2 * k)) e ∙ sym (layout s ok .row-wider k w)
+
+  pub role-said : at ≡ rowsAt s → k < headerOf s .e → byteAt s (at + 2 * k) ≡ rowAt (tableOf s .rows) k .role
+  role-said e w = ap (λ (p : ℕ). byteAt s (p + 2 * k)) e ∙ sym (layout s ok .row-role k w)
+
+  pub filler-said : at ≡ rowsAt s → k < headerOf s .e → IsRowFiller s k (byteAt s (at + 1 + 2 * k))
+  unfolding IsRowFiller
+  filler-said e w = ap (λ (p : ℕ). fillerOf (headerOf s .c) (headerOf s .v) (byteAt s (p + 1 + 2 * k))) e ∙ layout s ok .row-filler k w
+
 ------------------------------------------------------------------ where lines lie
 
-pub start-first : (s : List ℕ) (e : ℕ) → e ≡ headerOf s .e → rowStart s e ≡ lineStart s 0
+pub start-first : (s : List ℕ) (at e : ℕ) → at ≡ rowsAt s → e ≡ headerOf s .e → at + 2 * e ≡ lineStart s 0
 unfolding lineStart
-start-first s e q = ap (rowStart s) q
+start-first s at e p q = ap₂ (λ (x y : ℕ). x + 2 * y) p q
 
 pub start-next : (s : List ℕ) (n at p : ℕ) → at ≡ lineStart s n → p ≡ byteAt s at → at + p + 2 ≡ lineStart s (n + 1)
 unfolding lineStart

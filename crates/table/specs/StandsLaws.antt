@@ -1,30 +1,33 @@
 -- What is read stands there as it is written, and what stands there as it is written is read.
 --
 --   here-byte, byte-here == what stands at a place, by what is left from there
---   row-stands, row-is          == a row that was read stands there as it is written, and one that stands there is read
+--   role-row-stands, role-row-is, row-stands, row-is == a role row, a row that was read stands there as it is written, and one that stands there is read
 --   entry-stands, entry-reads, line-stands, line-is == the same for an entry and for a line
---   header-first, header-stands, first-header, header-is == the same for the header
+--   header-first, version-read, header-length, first-header == the same for the header, its version is known, and how long it is
 use mathlib.Core.Path.{_≡_, refl, sym, ap, ap₂, subst, _∙_}
-use mathlib.Core.Bool.{_&&_}
+use mathlib.Core.Bool.{Bool, true, false, _&&_, _||_, cond}
+use mathlib.Core.Logic.{_⊎_, inl, inr}
 use mathlib.Core.List.{List, [], _∷_, _++_, flatMap, append-assoc}
+use mathlib.Core.Option.{Option, some}
 use Prim.Native.Nat.{ℕ, zero, suc, _+_, _-_, _≤_, _<_}
 use native.Mathlib.Omega.{arith}
 use native.Mathlib.Numerals.{add-one}
-use lib.Dec.{T, eqb, leb, ltb, eqb→eq, ltb→lt, leb→le, le→leb, lt→ltb}
+use lib.Dec.{T, eqb, leb, ltb, eqb→eq, ltb→lt, leb→le, le→leb}
 use lib.ListN.{length, drop, getD, length-drop, length-append}
 use lib.Seq.{drop-drop, drop-cons, getD-drop}
 use Rattle.el.specs.Test.{everyOf}
-use Rattle.el.specs.TestLaws.{true-is, and-make, and-left, and-right}
-use Rattle.el.specs.Table.{Entry, Row, Line, Table, fillerDeclared, rowDeclared, entryDeclared, lineDeclared}
+use Rattle.el.specs.TestLaws.{true-is, or-cases, and-make, and-left, and-right}
+use Rattle.el.specs.Roles.{RoleRow}
+use Rattle.el.specs.Table.{Entry, Row, Line, Table, roleRowDeclared, fillerDeclared, rowDeclared, entryDeclared, lineDeclared}
 use Rattle.bounds.specs.Bounds.{bounds, maxLeft}
 use Rattle.table.specs.declared.Header.{Header}
-use Rattle.table.specs.Code.{fillerOf, entryOf}
-use Rattle.table.specs.CodeLaws.{filler-code, filler-is, entry-code, entry-is}
-use Rattle.table.specs.Reading.{got, byteAt, headerLength, headerOf, marked, versionOne, readHeader, readRow, readEntry, readLine, tableWith}
-use Rattle.table.specs.Bytes.{fillerCode, entryCode, writtenHeader, writtenRow, writtenEntry, writtenLine, Within, lineRight}
-use Rattle.table.specs.Standing.{Stands, First, HeaderRead}
+use Rattle.table.specs.Code.{roleOf, fillerOf, entryOf}
+use Rattle.table.specs.CodeLaws.{role-code, role-is, filler-code, filler-is, entry-code, entry-is}
+use Rattle.table.specs.Reading.{got, byteAt, versionPlace, constantsPlace, rolesPlace, variablesPlace, restrictionsPlace, linesPlace, headerLength, roleRowsPlace, hasRoleRows, headerEnd, roleCount, headerOf, marked, versionKnown, readRoleRow, readRow, readEntry, readLine, tableWith}
+use Rattle.table.specs.Bytes.{fillerCode, entryCode, writtenRoleCount, writtenHeader, writtenRoleRow, writtenRow, writtenEntry, writtenLine, IsVersion, version-one, version-two, Within, lineRight}
+use Rattle.table.specs.Standing.{Stands, First, PairRead, HeaderRead}
 use Rattle.table.specs.ManyLaws.{stands-then, drop-behind, many-written, many-read}
-use Rattle.table.specs.ReadLaws.{row-all, row-read, entry-answer, entry-read, line-all, line-read, header-all, header-read}
+use Rattle.table.specs.ReadLaws.{code-answer, code-read, role-row-all, role-row-read, row-all, row-read, line-all, line-read, header-long}
 
 ------------------------------------------------------------------ what stands at a place
 
@@ -41,40 +44,64 @@ module _ (s : List ℕ) where
   pub byte-here : (at : ℕ) → at < length s → drop at s ≡ byteAt s at ∷ drop (at + 1) s
   byte-here at l = drop-cons s at 0 l ∙ ap (λ (k : ℕ). byteAt s at ∷ drop k s) (sym (add-one at))
 
------------------------------------------------------------------- rows
+------------------------------------------------------------------ two codes
 
-module _ (s : List ℕ) (h : Header) (rows : List Row) (lines : List Line) where
+module _ {A B : Type 0} (s : List ℕ) (f : ℕ → Option A) (g : ℕ → Option B) (at : ℕ) (a : A) (b : B) where
+  pair-stands : (end x y : ℕ) → PairRead s f g at a b end → byteAt s at ≡ x → byteAt s (at + 1) ≡ y → Stands s at (x ∷ y ∷ []) end
+  pair-stands end x y r p q =
+      let inside : at + 1 < length s = r .inside in
+      let two : end ≡ at + 2 = r .next in (
+        byte-here s at (omega arith) ∙ ap₂ (λ (x : ℕ) (l : List ℕ). x ∷ l) p (byte-here s (at + 1) inside ∙ ap₂ (λ (y k : ℕ). y ∷ drop k s) q (let e : at + 1 + 1 ≡ end = omega arith in e)),
+        two,
+      )
+
+  pair-is : (x y : ℕ) (tail : List ℕ) → drop at s ≡ x ∷ y ∷ tail → f x ≡ some a → g y ≡ some b → PairRead s f g at a b (at + 2)
+  pair-is x y tail q i j =
+      let p = here-byte s at x (y ∷ tail) q in
+      let r = here-byte s (at + 1) y tail (p .2) in
+      record { inside = r .0; first = ap f (p .1) ∙ i; second = ap g (r .1) ∙ j; next = refl }
+
+------------------------------------------------------------------ role rows and rows
+
+module _ (s : List ℕ) (h : Header) (roleRows : List RoleRow) (rows : List Row) (lines : List Line) where
   abbrev built : Table
-  built = tableWith h rows lines
+  built = tableWith h roleRows rows lines
+
+  pub role-row-stands : (at : ℕ) (row : RoleRow) (end : ℕ) → readRoleRow s h at ≡ got row end → Stands s at (writtenRoleRow row) end × T (roleRowDeclared built row)
+  unfolding writtenRoleRow
+  role-row-stands at row end q =
+      let r = role-row-read s h at row end q in
+      let n = role-code (h .r) (byteAt s at) (row .narrower) (r .first) in
+      let w = role-code (h .r) (byteAt s (at + 1)) (row .wider) (r .second) in (
+        pair-stands s (roleOf (h .r)) (roleOf (h .r)) at (row .narrower) (row .wider) end (row .narrower) (row .wider) r (n .0) (w .0),
+        and-make (ltb (row .narrower) (h .r)) (ltb (row .wider) (h .r)) (n .1) (w .1),
+      )
+
+  pub role-row-is : (at : ℕ) (row : RoleRow) (tail : List ℕ) → T (roleRowDeclared built row) → drop at s ≡ writtenRoleRow row ++ tail → readRoleRow s h at ≡ got row (at + length (writtenRoleRow row))
+  unfolding writtenRoleRow
+  role-row-is at row tail d q =
+      role-row-all s h at row (at + 2)
+      (pair-is s (roleOf (h .r)) (roleOf (h .r)) at (row .narrower) (row .wider) (row .narrower) (row .wider) tail q
+      (role-is (h .r) (row .narrower) (and-left (ltb (row .narrower) (h .r)) (ltb (row .wider) (h .r)) d))
+      (role-is (h .r) (row .wider) (and-right (ltb (row .narrower) (h .r)) (ltb (row .wider) (h .r)) d)))
 
   pub row-stands : (at : ℕ) (row : Row) (end : ℕ) → readRow s h at ≡ got row end → Stands s at (writtenRow row) end × T (rowDeclared built row)
   unfolding writtenRow
   row-stands at row end q =
       let r = row-read s h at row end q in
-      let inside : at + 1 < length s = r .inside in
-      let two : end ≡ at + 2 = r .next in
-      let code = filler-code built (byteAt s (at + 1)) (row .filler) (r .filler) in (
-        (
-          byte-here s at (omega arith)
-              ∙ ap₂ (λ (a : ℕ) (l : List ℕ). a ∷ l) (sym (r .role)) (byte-here s (at + 1) inside ∙ ap₂ (λ (b k : ℕ). b ∷ drop k s) (code .0) (let e : at + 1 + 1 ≡ end = omega arith in e)),
-          two,
-        ),
-        and-make (ltb (row .role) (h .r)) (fillerDeclared built (row .filler)) (lt→ltb (row .role) (h .r) (subst (λ (k : ℕ). k < h .r) (sym (r .role)) (r .role-less))) (code .1),
+      let n = role-code (h .r) (byteAt s at) (row .role) (r .first) in
+      let code = filler-code built (byteAt s (at + 1)) (row .filler) (r .second) in (
+        pair-stands s (roleOf (h .r)) (fillerOf (h .c) (h .v)) at (row .role) (row .filler) end (row .role) (fillerCode (row .filler)) r (n .0) (code .0),
+        and-make (ltb (row .role) (h .r)) (fillerDeclared built (row .filler)) (n .1) (code .1),
       )
 
   pub row-is : h .c ≤ 0x20 → (at : ℕ) (row : Row) (tail : List ℕ) → T (rowDeclared built row) → drop at s ≡ writtenRow row ++ tail → readRow s h at ≡ got row (at + length (writtenRow row))
   unfolding writtenRow
   row-is few at row tail d q =
-      let a = here-byte s at (row .role) (fillerCode (row .filler) ∷ tail) q in
-      let b = here-byte s (at + 1) (fillerCode (row .filler)) tail (a .2) in
       row-all s h at row (at + 2)
-      (record {
-        inside = b .0;
-        role = sym (a .1);
-        role-less = subst (λ (k : ℕ). k < h .r) (sym (a .1)) (ltb→lt (row .role) (h .r) (and-left (ltb (row .role) (h .r)) (fillerDeclared built (row .filler)) d));
-        filler = ap (fillerOf (h .c) (h .v)) (b .1) ∙ filler-is built few (row .filler) (and-right (ltb (row .role) (h .r)) (fillerDeclared built (row .filler)) d);
-        next = refl;
-      })
+      (pair-is s (roleOf (h .r)) (fillerOf (h .c) (h .v)) at (row .role) (row .filler) (row .role) (fillerCode (row .filler)) tail q
+      (role-is (h .r) (row .role) (and-left (ltb (row .role) (h .r)) (fillerDeclared built (row .filler)) d))
+      (filler-is built few (row .filler) (and-right (ltb (row .role) (h .r)) (fillerDeclared built (row .filler)) d)))
 
   ---------------------------------------------------------------- entries
 
@@ -82,7 +109,7 @@ module _ (s : List ℕ) (h : Header) (rows : List Row) (lines : List Line) where
     pub entry-stands : (at : ℕ) (x : Entry) (end : ℕ) → readEntry s h at ≡ got x end → Stands s at (writtenEntry x) end × T (entryDeclared built x)
     unfolding writtenEntry
     entry-stands at x end q =
-        let r = entry-read s h at x end q in
+        let r = code-read s (entryOf (h .c) (h .e) (h .v)) at x end q in
         let code = entry-code built (byteAt s at) x (ap (λ (e : ℕ). entryOf (h .c) e (h .v) (byteAt s at)) all-rows ∙ r .1) in
         ((byte-here s at (r .0) ∙ ap₂ (λ (b k : ℕ). b ∷ drop k s) (code .0) (sym (r .2)), r .2), code .1)
 
@@ -91,7 +118,7 @@ module _ (s : List ℕ) (h : Header) (rows : List Row) (lines : List Line) where
       unfolding writtenEntry
       entry-reads at x tail d q =
           let a = here-byte s at (entryCode x) tail q in
-          entry-answer s h at (a .0) _
+          code-answer s (entryOf (h .c) (h .e) (h .v)) at (a .0) _
           (ap (entryOf (h .c) (h .e) (h .v)) (a .1)
           ∙ ap (λ (e : ℕ). entryOf (h .c) e (h .v) (entryCode x)) (sym all-rows)
           ∙ entry-is built few (let e : length rows ≡ h .e = all-rows in omega arith) x d)
@@ -155,28 +182,75 @@ five l f g h i j = λ x. f x ∷ g x ∷ h x ∷ i x ∷ j x ∷ l
 both : (a b i j : ℕ) → T (eqb a i && eqb b j) → (a ≡ i) × (b ≡ j)
 both a b i j m = (eqb→eq a i (and-left (eqb a i) (eqb b j) m), eqb→eq b j (and-right (eqb a i) (eqb b j) m))
 
--- a header with a right mark and version stands first
-header-bytes : (s : List ℕ) → headerLength ≤ length s → T (marked s) → T (versionOne s) → s ≡ writtenHeader (headerOf s) ++ drop headerLength s
-unfolding writtenHeader bytesFrom marked versionOne
-header-bytes s long m v =
-    let a = both (byteAt s 1) (byteAt s 2) 0x4F 0x43 (and-right (eqb (byteAt s 0) 0x56) (eqb (byteAt s 1) 0x4F && eqb (byteAt s 2) 0x43) m) in
-    let b = both (byteAt s 3) (byteAt s 4) 1 0 v in
-    front s headerLength 0 long
-    ∙ five _ (eqb→eq (byteAt s 0) 0x56 (and-left (eqb (byteAt s 0) 0x56) (eqb (byteAt s 1) 0x4F && eqb (byteAt s 2) 0x43) m)) (a .0) (a .1) (b .0) (b .1)
+-- the version of a header that was read is known
+header-version : (s : List ℕ) → T (versionKnown s) → IsVersion (headerOf s)
+unfolding versionKnown hasRoleRows roleCount
+header-version s v = go (or-cases (eqb (byteAt s versionPlace) 1) (eqb (byteAt s versionPlace) 2) (and-left (eqb (byteAt s versionPlace) 1 || eqb (byteAt s versionPlace) 2) (eqb (byteAt s 4) 0) v))
+  where
+    none-there : byteAt s versionPlace ≡ 1 → cond (hasRoleRows (byteAt s versionPlace)) (byteAt s roleRowsPlace) 0 ≡ 0
+    none-there e = ap (λ (k : ℕ). cond (hasRoleRows k) (byteAt s roleRowsPlace) 0) e
 
-pub header-first : (s : List ℕ) (h : Header) → HeaderRead bounds s h → First s (writtenHeader h) headerLength
-unfolding writtenHeader
+    go : T (eqb (byteAt s versionPlace) 1) ⊎ T (eqb (byteAt s versionPlace) 2) → IsVersion (headerOf s)
+    go (inl u) = let e = eqb→eq (byteAt s versionPlace) 1 u in version-one e (none-there e)
+    go (inr u) = version-two (eqb→eq (byteAt s versionPlace) 2 u)
+
+-- the byte of q stands behind the counts, where there is one
+count-bytes : (s : List ℕ) → headerEnd (headerOf s) ≤ length s → drop headerLength s ≡ writtenRoleCount (headerOf s) ++ drop (headerEnd (headerOf s)) s
+unfolding writtenRoleCount headerEnd roleCount
+count-bytes s w = go (hasRoleRows (byteAt s versionPlace)) w
+  where
+    go : (b : Bool) → cond b (headerLength + 1) headerLength ≤ length s
+        → drop headerLength s ≡ cond b (cond b (byteAt s roleRowsPlace) 0 ∷ []) [] ++ drop (cond b (headerLength + 1) headerLength) s
+    go true w = byte-here s headerLength w
+    go false w = refl
+
+-- a header with a right mark and version stands first
+header-bytes : (s : List ℕ) → headerEnd (headerOf s) ≤ length s → T (marked s) → T (versionKnown s) → s ≡ writtenHeader (headerOf s) ++ drop (headerEnd (headerOf s)) s
+unfolding writtenHeader bytesFrom marked versionKnown
+header-bytes s long m v =
+    let l = header-long (headerOf s) in
+    let a = both (byteAt s 1) (byteAt s 2) 0x4F 0x43 (and-right (eqb (byteAt s 0) 0x56) (eqb (byteAt s 1) 0x4F && eqb (byteAt s 2) 0x43) m) in
+    let known = eqb (byteAt s versionPlace) 1 || eqb (byteAt s versionPlace) 2 in
+    front s headerLength 0 (omega arith)
+    ∙ five _ (eqb→eq (byteAt s 0) 0x56 (and-left (eqb (byteAt s 0) 0x56) (eqb (byteAt s 1) 0x4F && eqb (byteAt s 2) 0x43) m)) (a .0) (a .1) refl (eqb→eq (byteAt s 4) 0 (and-right known (eqb (byteAt s 4) 0) v))
+    ∙ ap (λ (l : List ℕ). 0x56 ∷ 0x4F ∷ 0x43 ∷ byteAt s versionPlace ∷ 0 ∷ byteAt s constantsPlace ∷ byteAt s rolesPlace ∷ byteAt s variablesPlace ∷ byteAt s restrictionsPlace ∷ byteAt s linesPlace ∷ l) (count-bytes s long)
+
+pub header-length : (h : Header) → length (writtenHeader h) ≡ headerEnd h
+unfolding writtenHeader writtenRoleCount headerEnd
+header-length h = go (hasRoleRows (h .version))
+  where
+    go : (b : Bool) → length (0x56 ∷ 0x4F ∷ 0x43 ∷ h .version ∷ 0 ∷ h .c ∷ h .r ∷ h .v ∷ h .e ∷ h .m ∷ cond b (h .q ∷ []) []) ≡ cond b (headerLength + 1) headerLength
+    go true = refl
+    go false = refl
+
+pub header-first : (s : List ℕ) (h : Header) → HeaderRead bounds s h → First s (writtenHeader h) (headerEnd h)
 header-first s h r = (
-  subst (λ (x : Header). s ≡ writtenHeader x ++ drop headerLength s) (sym (r .same)) (header-bytes s (r .inside) (true-is (marked s) (r .mark)) (true-is (versionOne s) (r .version))),
-  refl,
+  subst (λ (x : Header). s ≡ writtenHeader x ++ drop (headerEnd x) s) (sym (r .same))
+      (header-bytes s (subst (λ (x : Header). headerEnd x ≤ length s) (r .same) (r .inside)) (true-is (marked s) (r .mark)) (true-is (versionKnown s) (r .version))),
+  sym (header-length h),
 )
 
-pub header-stands : (s : List ℕ) (h : Header) (end : ℕ) → readHeader bounds s ≡ got h end → (s ≡ writtenHeader h ++ drop headerLength s) × Within bounds h
-header-stands s h end q = let r = header-read bounds s h end q in (header-first s h r .0, r .counts)
+pub version-read : (s : List ℕ) (h : Header) → HeaderRead bounds s h → IsVersion h
+version-read s h r = subst IsVersion (sym (r .same)) (header-version s (true-is (versionKnown s) (r .version)))
 
-pub first-header : (h : Header) (tail : List ℕ) → Within bounds h → HeaderRead bounds (writtenHeader h ++ tail) h
-unfolding writtenHeader marked versionOne
-first-header h tail w = record { same = refl; inside = omega arith; mark = refl; version = refl; counts = w }
+-- a written header is read
+module _ (h : Header) (tail : List ℕ) where
+  known-version : IsVersion h → versionKnown (writtenHeader h ++ tail) ≡ true
+  unfolding versionKnown writtenHeader
+  known-version (version-one e z) = ap (λ (k : ℕ). (eqb k 1 || eqb k 2) && true) e
+  known-version (version-two e) = ap (λ (k : ℕ). (eqb k 1 || eqb k 2) && true) e
 
-pub header-is : (h : Header) (tail : List ℕ) → Within bounds h → readHeader bounds (writtenHeader h ++ tail) ≡ got h headerLength
-header-is h tail w = header-all bounds (writtenHeader h ++ tail) h (first-header h tail w)
+  same-count : IsVersion h → h .q ≡ roleCount (writtenHeader h ++ tail)
+  unfolding writtenHeader writtenRoleCount hasRoleRows roleCount
+  same-count (version-one e z) = z ∙ ap (λ (k : ℕ). cond (eqb k 2) (getD (cond (eqb k 2) (h .q ∷ []) [] ++ tail) 0 0) 0) (sym e)
+  same-count (version-two e) = ap (λ (k : ℕ). cond (eqb k 2) (getD (cond (eqb k 2) (h .q ∷ []) [] ++ tail) 0 0) 0) (sym e)
+
+  pub first-header : IsVersion h → Within bounds h → HeaderRead bounds (writtenHeader h ++ tail) h
+  unfolding writtenHeader marked
+  first-header version w = record {
+    same = λ i. record { version = h .version; c = h .c; r = h .r; v = h .v; e = h .e; m = h .m; q = same-count version i };
+    inside = (let a = header-length h in let b : length (writtenHeader h ++ tail) ≡ length (writtenHeader h) + length tail = length-append (writtenHeader h) tail in omega arith);
+    mark = refl;
+    version = known-version version;
+    counts = w;
+  }

@@ -29,6 +29,7 @@ module _ (b w : Bounds) (wider : Wider b w) (s : List ℕ) (h : Header) where
         few-variables = (let x = i .few-variables in let y = wider .variables in omega arith);
         few-atoms = (let x = i .few-atoms in let y = wider .atoms in omega arith);
         few-lines = (let x = i .few-lines in let y = wider .lines in omega arith);
+        few-role-rows = (let x = i .few-role-rows in let y = wider .roleRows in omega arith);
       }
 
   -- WHAT IS READABLE WITHIN b IS READ AS THE SAME TABLE WITHIN w
@@ -38,13 +39,17 @@ module _ (b w : Bounds) (wider : Wider b w) (s : List ℕ) (h : Header) where
       let d = r .1 in
       readable-all w s h t (record { same = r .0 .same; inside = r .0 .inside; mark = r .0 .mark; version = r .0 .version; counts = within-wider (r .0 .counts) })
       (record {
+        roleRows = d .roleRows;
         rows = d .rows;
         lines = d .lines;
+        first = d .first;
         mid = d .mid;
         end = d .end;
         same = d .same;
+        all-role-rows = d .all-role-rows;
         all-rows = d .all-rows;
         all-lines = d .all-lines;
+        role-rows-read = d .role-rows-read;
         rows-read = d .rows-read;
         lines-read = lines-wider (d .lines) (d .mid) (d .end) (d .lines-read);
         nothing-left = d .nothing-left;

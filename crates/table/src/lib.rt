@@ -1,26 +1,30 @@
 // What the bytes say: the codes and the reader.
 //
-// A table is read in byte order: its header, its rows, its lines, and nothing after them. Each reader answers the place after what it
-// read, or the refusal, and rows and lines are read under the counts that are handed to them. The crates above ask for a table's counts,
-// for the role and the filler of a row, and for the byte where a line begins; no other crate knows where these stand.
+// A table is read in byte order: its header, its role rows, its rows, its lines, and nothing after them. Each reader answers the place
+// after what it read, or the refusal, and rows and lines are read under the header that is handed to them. The crates above ask for a
+// table's counts, for the two roles of a role row, for the role and the filler of a row, and for the byte where a line begins; no other
+// crate knows where these stand, or of which version a table is.
 ghost use mathlib.Core.Path.{_≡_};
 ghost use Prim.Native.Nat.{_≤_, _<_};
 ghost use lib.Dec.{T};
 ghost use lib.ListN.{length, getD};
-ghost use Rattle.table.specs.Code.{kindOf, fillerOf, entryOf};
+ghost use Rattle.table.specs.Code.{kindOf, roleOf, fillerOf, entryOf};
 ghost use Rattle.bounds.specs.Bounds.{bounds};
-ghost use Rattle.table.specs.Reading.{headerLength, marked, versionOne, headerOf, readCounts, readHeader, readRow, readRows, readEntry, readEntries, readLine, readLines, readBody, reading, tableOf, isReadable};
+ghost use Rattle.table.specs.Reading.{headerLength, hasRoleRows, headerEnd, roleCount, rowsAt, marked, versionKnown, headerOf, readCounts, readHeader, readRole, readFiller, readEntry, readRoleRow, readRoleRows, readRow, readRows, readEntries, readLine, readLines, readBody, reading, tableOf, isReadable};
 ghost use Rattle.table.specs.Step.{isSome, stepOf, verdictOf};
 ghost use Rattle.el.specs.Table.{constant, rowAt};
-ghost use Rattle.table.specs.Layout.{lineStart, IsRowFiller, IsEntryCode, LineBegins, AtLine};
+ghost use Rattle.table.specs.Layout.{roleRowAt, lineStart, IsRowFiller, IsEntryCode, LineBegins, AtLine};
 use answer::Answer;
 use bounds::MAX_ATOMS;
 use bounds::MAX_LEFT;
 use bounds::MAX_LINES;
 use bounds::MAX_ROLES;
+use bounds::MAX_ROLE_ROWS;
 use bounds::MAX_VARIABLES;
 
-// The bytes that hold the five counts, and the length of the header.
+// The bytes that hold the version and the counts, and the length of a header without its count of role rows.
+pub const VERSION: usize = 3;
+
 pub const CONSTANTS: usize = 5;
 
 pub const ROLES: usize = 6;
@@ -33,16 +37,17 @@ pub const LINES: usize = 9;
 
 pub const HEADER: usize = 10;
 
-// Where the filler of row 0 stands.
-const FILLER: usize = HEADER + 1;
+pub const ROLE_ROWS: usize = 10;
 
-// The counts of a table: constants c, roles r, variables v, restrictions e, lines m.
+// The version and the counts of a table: constants c, roles r, variables v, restrictions e, lines m, role rows q.
 pub struct Header {
+    pub version: u8,
     pub c: u8,
     pub r: u8,
     pub v: u8,
     pub e: u8,
     pub m: u8,
+    pub q: u8,
 }
 
 // What a code byte stands for, by its range alone.
@@ -76,6 +81,13 @@ pub fn kind_of(code: u8) -> Kind
         0x60.. => Kind::Variable(code - 0x60),
         _ => Kind::Other,
     }
+}
+
+// Is the byte a declared role?
+fn role_ok(code: u8, header: Header) -> bool
+    ensures { λ r. ⌜ r ≡ isSome (roleOf (header .r) code) ⌝ }
+{
+    code < header.r
 }
 
 // Is the code a filler, where these counts are declared?
@@ -118,24 +130,64 @@ fn has_mark(table: &[u8]) -> bool
     table[0] == 0x56 && (table[1] == 0x4F && table[2] == 0x43)
 }
 
-fn is_version_one(table: &[u8]) -> bool
+fn is_version_known(table: &[u8]) -> bool
     requires { ⌜ headerLength ≤ length (now table) ⌝ }
-    ensures { λ r. ⌜ r ≡ versionOne (now (table .entry)) ⌝ }
+    ensures { λ r. ⌜ r ≡ versionKnown (now (table .entry)) ⌝ }
 {
-    table[3] == 1 && table[4] == 0
+    if table[4] != 0 {
+        return false;
+    }
+    if table[VERSION] == 1 {
+        return true;
+    }
+    table[VERSION] == 2
 }
 
-// The counts of a table that is at least as long as its header.
+// Do tables of this version have role rows?
+fn has_role_rows(version: u8) -> bool
+    ensures { λ r. ⌜ r ≡ hasRoleRows version ⌝ }
+{
+    version == 2
+}
+
+// How many bytes the header has.
+fn header_end(header: Header) -> usize
+    ensures { λ r. ⌜ r ≡ headerEnd header ⌝ }
+{
+    if has_role_rows(header.version) {
+        return HEADER + 1;
+    }
+    HEADER
+}
+
+// The count of role rows; 0 where there is none.
+fn role_count(table: &[u8]) -> u8
+    requires { ⌜ headerLength ≤ length (now table) ⌝ }
+    ensures { λ r. ⌜ r ≡ roleCount (now (table .entry)) ⌝ }
+{
+    if table.len() <= ROLE_ROWS {
+        return 0;
+    }
+    if has_role_rows(table[VERSION]) {
+        return table[ROLE_ROWS];
+    }
+    0
+}
+
+// The version and the counts of a table of at least ten bytes.
 pub fn header_of(table: &[u8]) -> Header
     requires { ⌜ headerLength ≤ length (now table) ⌝ }
     ensures { λ r. ⌜ r ≡ headerOf (now (table .entry)) ⌝ }
 {
+    let q = role_count(table);
     Header {
+        version: table[VERSION],
         c: table[CONSTANTS],
         r: table[ROLES],
         v: table[VARIABLES],
         e: table[RESTRICTIONS],
         m: table[LINES],
+        q,
     }
 }
 
@@ -143,7 +195,7 @@ pub fn header_of(table: &[u8]) -> Header
 fn read_counts(header: Header) -> Step
     ensures { λ r. ⌜ r ≡ stepOf (readCounts bounds header) ⌝ }
 {
-    if MAX_ROLES < header.r {
+    if MAX_ROLES < wide(header.r) {
         return Step::Stop(Answer::OverBound(ROLES));
     }
     if MAX_VARIABLES < wide(header.v) {
@@ -155,10 +207,13 @@ fn read_counts(header: Header) -> Step
     if MAX_LINES < wide(header.m) {
         return Step::Stop(Answer::OverBound(LINES));
     }
-    Step::Next(HEADER)
+    if MAX_ROLE_ROWS < wide(header.q) {
+        return Step::Stop(Answer::OverBound(ROLE_ROWS));
+    }
+    Step::Next(header_end(header))
 }
 
-// The mark, the version and the counts.
+// The mark, the version and the counts. Where the byte of q is missing, q is 0, so its bound may be judged first.
 fn read_header(table: &[u8]) -> Step
     ensures { λ r. ⌜ r ≡ stepOf (readHeader bounds (now (table .entry))) ⌝ }
 {
@@ -166,33 +221,88 @@ fn read_header(table: &[u8]) -> Step
         return Step::Stop(Answer::EndsEarly(table.len()));
     }
     let mark = has_mark(table);
-    let version = is_version_one(table);
+    let version = is_version_known(table);
     if !mark {
         return Step::Stop(Answer::WrongMark);
     }
     if !version {
         return Step::Stop(Answer::WrongVersion);
     }
-    read_counts(header_of(table))
+    match read_counts(header_of(table)) {
+        Step::Next(end) => {
+            if table.len() < end {
+                return Step::Stop(Answer::EndsEarly(table.len()));
+            }
+            Step::Next(end)
+        }
+        Step::Stop(why) => Step::Stop(why),
+    }
 }
 
-// The restriction row that begins at the byte `at`, where these counts are declared.
-fn read_row(table: &[u8], header: Header, at: usize) -> Step
-    ensures { λ r. ⌜ r ≡ stepOf (readRow (now (table .entry)) header at) ⌝ }
+// The role at the byte `at`.
+fn read_role(table: &[u8], header: Header, at: usize) -> Step
+    ensures { λ r. ⌜ r ≡ stepOf (readRole (now (table .entry)) header at) ⌝ }
 {
     if table.len() <= at {
         return Step::Stop(Answer::EndsEarly(table.len()));
     }
-    if header.r <= table[at] {
+    if !role_ok(table[at], header) {
         return Step::Stop(Answer::NotAllowed(at));
     }
-    if table.len() <= at + 1 {
+    Step::Next(at + 1)
+}
+
+// The filler at the byte `at`.
+fn read_filler(table: &[u8], header: Header, at: usize) -> Step
+    ensures { λ r. ⌜ r ≡ stepOf (readFiller (now (table .entry)) header at) ⌝ }
+{
+    if table.len() <= at {
         return Step::Stop(Answer::EndsEarly(table.len()));
     }
-    if !filler_ok(table[at + 1], header) {
-        return Step::Stop(Answer::NotAllowed(at + 1));
+    if !filler_ok(table[at], header) {
+        return Step::Stop(Answer::NotAllowed(at));
     }
-    Step::Next(at + 2)
+    Step::Next(at + 1)
+}
+
+// The role row that begins at the byte `at`: two roles, each judged by itself.
+fn read_role_row(table: &[u8], header: Header, at: usize) -> Step
+    ensures { λ r. ⌜ r ≡ stepOf (readRoleRow (now (table .entry)) header at) ⌝ }
+{
+    match read_role(table, header, at) {
+        Step::Next(next) => read_role(table, header, next),
+        Step::Stop(why) => Step::Stop(why),
+    }
+}
+
+// `count` role rows from the byte `from` on.
+fn read_role_rows(table: &[u8], header: Header, count: usize, from: usize) -> Step
+    ensures { λ r. ⌜ r ≡ stepOf (readRoleRows (now (table .entry)) header count from) ⌝ }
+{
+    let mut at = from;
+    let mut k = 0;
+    while k < count {
+        match read_role_row(table, header, at) {
+            Step::Next(next) => {
+                at = next;
+            }
+            Step::Stop(why) => {
+                return Step::Stop(why);
+            }
+        }
+        k += 1;
+    }
+    Step::Next(at)
+}
+
+// The restriction row that begins at the byte `at`: a role and a filler.
+fn read_row(table: &[u8], header: Header, at: usize) -> Step
+    ensures { λ r. ⌜ r ≡ stepOf (readRow (now (table .entry)) header at) ⌝ }
+{
+    match read_role(table, header, at) {
+        Step::Next(next) => read_filler(table, header, next),
+        Step::Stop(why) => Step::Stop(why),
+    }
 }
 
 // `count` rows from the byte `from` on.
@@ -285,18 +395,21 @@ fn read_lines(table: &[u8], header: Header, count: usize, from: usize) -> Step
     Step::Next(at)
 }
 
-// The rows and the lines, and nothing after them.
+// The role rows, the rows and the lines, and nothing after them.
 fn read_body(table: &[u8], header: Header) -> Step
     ensures { λ r. ⌜ r ≡ stepOf (readBody bounds (now (table .entry)) header) ⌝ }
 {
-    match read_rows(table, header, wide(header.e), HEADER) {
-        Step::Next(next) => match read_lines(table, header, wide(header.m), next) {
-            Step::Next(end) => {
-                if end < table.len() {
-                    return Step::Stop(Answer::BytesAfter(end));
+    match read_role_rows(table, header, wide(header.q), header_end(header)) {
+        Step::Next(first) => match read_rows(table, header, wide(header.e), first) {
+            Step::Next(next) => match read_lines(table, header, wide(header.m), next) {
+                Step::Next(end) => {
+                    if end < table.len() {
+                        return Step::Stop(Answer::BytesAfter(end));
+                    }
+                    Step::Next(end)
                 }
-                Step::Next(end)
-            }
+                Step::Stop(why) => Step::Stop(why),
+            },
             Step::Stop(why) => Step::Stop(why),
         },
         Step::Stop(why) => Step::Stop(why),
@@ -316,12 +429,21 @@ pub fn check(table: &[u8]) -> Verdict
     }
 }
 
+// The byte where the rows of a readable table begin.
+fn rows_at(table: &[u8]) -> usize
+    requires { ⌜ T (isReadable (reading (now table))) ⌝ }
+    ensures { λ r. ⌜ r ≡ rowsAt (now (table .entry)) ⌝ }
+{
+    let header = header_of(table);
+    header_end(header) + 2 * wide(header.q)
+}
+
 // The byte where line n of a readable table begins; of as many lines as there are, the table's end.
 pub fn line_start(table: &[u8], n: usize) -> usize
     requires { ⌜ T (isReadable (reading (now table))) × (n ≤ headerOf (now table) .m) ⌝ }
     ensures { λ r. ⌜ r ≡ lineStart (now (table .entry)) n ⌝ }
 {
-    let mut at = HEADER + 2 * wide(table[RESTRICTIONS]);
+    let mut at = rows_at(table) + 2 * wide(table[RESTRICTIONS]);
     let mut i = 0;
     while i < n {
         at = at + wide(table[at]) + 2;
@@ -330,12 +452,28 @@ pub fn line_start(table: &[u8], n: usize) -> usize
     at
 }
 
+// The narrower role of role row k of a readable table.
+pub fn narrower_of(table: &[u8], k: usize) -> u8
+    requires { ⌜ T (isReadable (reading (now table))) × (k < headerOf (now table) .q) ⌝ }
+    ensures { λ r. ⌜ r ≡ roleRowAt (tableOf (now (table .entry)) .roleRows) k .narrower ⌝ }
+{
+    table[header_end(header_of(table)) + 2 * k]
+}
+
+// Its wider role.
+pub fn wider_of(table: &[u8], k: usize) -> u8
+    requires { ⌜ T (isReadable (reading (now table))) × (k < headerOf (now table) .q) ⌝ }
+    ensures { λ r. ⌜ r ≡ roleRowAt (tableOf (now (table .entry)) .roleRows) k .wider ⌝ }
+{
+    table[header_end(header_of(table)) + 1 + 2 * k]
+}
+
 // The role of restriction row k of a readable table.
 pub fn role_of(table: &[u8], k: usize) -> u8
     requires { ⌜ T (isReadable (reading (now table))) × (k < headerOf (now table) .e) ⌝ }
     ensures { λ r. ⌜ r ≡ rowAt (tableOf (now (table .entry)) .rows) k .role ⌝ }
 {
-    table[HEADER + 2 * k]
+    table[rows_at(table) + 2 * k]
 }
 
 // The code of its filler.
@@ -343,7 +481,7 @@ pub fn filler_of(table: &[u8], k: usize) -> u8
     requires { ⌜ T (isReadable (reading (now table))) × (k < headerOf (now table) .e) ⌝ }
     ensures { λ r. ⌜ IsRowFiller (now (table .entry)) k r ⌝ }
 {
-    table[FILLER + 2 * k]
+    table[rows_at(table) + 1 + 2 * k]
 }
 
 // How many left entries the line has that begins at the byte `at`.

@@ -3,8 +3,8 @@ use mathlib.Core.Path.{sym, _∙_}
 use native.Mathlib.Omega.{arith}
 use borrow.Author.Tests.{not-true, not-false}
 use borrow.Author.Needs.{needs}
-use Rattle.table.specs.ReadLaws.{entry-short}
-use Rattle.table.proofs.Laws.{stops, stop-code, next-code, entry-code}
+use Rattle.table.specs.ReadLaws.{code-short}
+use Rattle.table.proofs.Laws.{stops, code-stop, code-next}
 use Rattle.table.proofs.read_entry.Statement.{statement}
 use Rattle.table.proofs.read_entry.Tie as tie
 
@@ -12,9 +12,9 @@ pub read-entry-spec : {M : Type 1} → statement M
 read-entry-spec =
     tie.close
     (tie.spec
-    (λ c. stops (entry-short _ _ _ (c .if1 .taken)))
+    (λ c. stops (code-short _ _ _ (c .if1 .taken)))
     (λ c. search needs)
     (λ c κs. search needs)
-    (λ c. stop-code _ _ (sym (c .before .entry-ok .ensures) ∙ not-true _ (c .if2 .taken)) ∙ entry-code _ _ _ (omega arith))
+    (λ c. code-stop _ _ _ (omega arith) (sym (c .before .entry-ok .ensures) ∙ not-true _ (c .if2 .taken)))
     (λ c. search needs)
-    (λ c. next-code _ _ (sym (c .before .entry-ok .ensures) ∙ not-false _ (c .if2 .left)) ∙ entry-code _ _ _ (omega arith)))
+    (λ c. code-next _ _ _ (omega arith) (sym (c .before .entry-ok .ensures) ∙ not-false _ (c .if2 .left))))

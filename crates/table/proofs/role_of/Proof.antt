@@ -1,7 +1,6 @@
 -- `table::role_of` meets its contract: the layout says what the byte is.
-use mathlib.Core.Path.{sym}
 use native.Mathlib.Omega.{arith}
-use Rattle.table.specs.LayoutLaws.{layout}
+use Rattle.table.specs.LayoutLaws.{layout, role-said}
 use Rattle.table.proofs.role_of.Statement.{statement}
 use Rattle.table.proofs.role_of.Tie as tie
 
@@ -9,7 +8,8 @@ pub role-of-spec : {M : Type 1} → statement M
 role-of-spec =
     tie.close
     (tie.spec
-    (λ c. omega (arith, layout _ (c .pre .0) .row-in _ (c .pre .1), layout _ (c .pre .0) .few-atoms))
-    (λ c. omega (arith, layout _ (c .pre .0) .row-in _ (c .pre .1), layout _ (c .pre .0) .few-atoms))
-    (λ c. omega (arith, layout _ (c .before .pre .0) .row-in _ (c .before .pre .1)))
-    (λ c. sym (layout _ (c .before .pre .0) .row-role _ (c .before .pre .1))))
+    (λ c κs. c .before .pre .0)
+    (λ c. omega (arith, layout _ (c .before .before .pre .0) .few-atoms, c .before .before .pre .1))
+    (λ c. omega (arith, c .rows-at .ensures, layout _ (c .before .before .pre .0) .row-in _ (c .before .before .pre .1)))
+    (λ c. omega (arith, c .before .rows-at .ensures, layout _ (c .before .before .before .pre .0) .row-in _ (c .before .before .before .pre .1)))
+    (λ c. role-said _ (c .before .before .before .pre .0) _ _ (c .before .rows-at .ensures) (c .before .before .before .pre .1)))

@@ -15,7 +15,7 @@ use lib.Dec.{T, eqb, ltb}
 use lib.ListN.{getD}
 use lib.Bits.{bitAnd}
 use borrow.Author.Tests.{lt-ltb, le-ltb}
-use Rattle.el.specs.OrderLaws.{roleOrder-refl}
+use Rattle.el.specs.RoleLaws.{roleOrder-refl}
 use Rattle.el.specs.Test.{anyBelow, allBelow, bit}
 use Rattle.el.specs.TestLaws.{is-true, true-is, same-test, false-not, anyBelow-hit, anyBelow-found, anyBelow-same, anyBelow-true-at, allBelow-same}
 use Rattle.el.specs.Table.{Filler, Table, rowAt, atoms, roleOrder}

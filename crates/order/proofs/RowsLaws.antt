@@ -1,24 +1,28 @@
 -- The loops that prepare the rows.
 --
+--   role-low, lies-by == the role of a row has a mask, and what it says
 --   over-start, over-hit, over-miss, over-whole == the rows whose roles lie under row j's, one more at a time
 --   rows-start, rows-step, rows-whole           == row by row
 use mathlib.Core.Path.{_≡_, sym, ap, ap₂, subst, _∙_}
-use mathlib.Core.Bool.{Bool, true, false, _&&_, _||_, and-false, or-true, or-false}
+use mathlib.Core.Bool.{Bool, true, false, _&&_, _||_, and-true, and-false, or-false}
 use mathlib.Core.List.{List}
 use Prim.Native.Nat.{ℕ, _+_, _*_, _%_, _^_, _≤_, _<_}
 use native.Mathlib.Omega.{arith}
 use native.Mathlib.Decide.{ℕ-discrete, decLt}
-use lib.Dec.{eqb, ltb}
+use lib.Dec.{T, eqb, ltb, ltb→lt}
 use lib.ListN.{length, getD, set, replicate, length-set, length-replicate}
 use lib.Seq.{getD-set-same, getD-set-other}
 use lib.Bits.{bitOr}
 use borrow.Author.Tests.{eq-eqb, ne-eqb, lt-ltb, le-ltb}
-use Rattle.bounds.specs.Bounds.{maxAtoms, setBits, setNumbers}
-use Rattle.el.specs.OrderLaws.{roleOrder-same, roleOrder-other}
+use Rattle.bounds.specs.Bounds.{maxAtoms, maxRoles, setBits, setNumbers}
 use Rattle.el.specs.Test.{bit}
-use Rattle.el.specs.TestLaws.{bit-none}
-use Rattle.el.specs.Table.{rowAt, roleOrder}
-use Rattle.table.specs.Reading.{tableOf, headerOf}
+use Rattle.el.specs.TestLaws.{bit-none, and-left, everyOf-at}
+use Rattle.el.specs.Table.{topF, rowAt, roleOrder, fillerDeclared, rowDeclared}
+use Rattle.el.specs.TableLaws.{rows-declared}
+use Rattle.table.specs.Reading.{tableOf, headerOf, reading, isReadable}
+use Rattle.table.specs.LayoutLaws.{layout}
+use Rattle.roles.specs.Under.{RolesUnder}
+use Rattle.roles.specs.UnderLaws.{under-bit}
 use Rattle.table.specs.Layout.{IsRowFiller}
 use Rattle.bounds.specs.WidthLaws.{power-fits}
 use Rattle.el.specs.BitLaws.{bit-power, bit-or}
@@ -40,33 +44,27 @@ module _ (s : List ℕ) (j : ℕ) where
   unfolding Over
   over-start k = bit-none k ∙ sym (ap (λ b. b && roleOrder (tableOf s) (role k) (role j)) (le-ltb k 0 (omega arith)))
 
-  pub over-hit : (n m a b : ℕ) → n < setBits → a ≡ role n → b ≡ role j → a ≡ b → Over s j n m → Over s j (n + 1) (bitOr m (1 * 2 ^ n % setNumbers))
+  -- the next row is in the mask exactly if its role lies under row j's
+  over-next : (n m x : ℕ) (b : Bool) → roleOrder (tableOf s) (role n) (role j) ≡ b → ((k : ℕ) → bit k x ≡ bit k m || (eqb k n && b)) → Over s j n m → Over s j (n + 1) x
   unfolding Over
-  over-hit n m a b h p q e f k = bit-or k m (1 * 2 ^ n % setNumbers) ∙ ap₂ _||_ (f k) (ap (bit k) (power-fits n h) ∙ bit-power k n) ∙ go (ℕ-discrete k n)
+  over-next n m x b e more f k = more k ∙ ap (λ u. u || (eqb k n && b)) (f k) ∙ go (ℕ-discrete k n)
     where
-      same : roleOrder (tableOf s) (role n) (role j) ≡ true
-      same = roleOrder-same (tableOf s) (role n) (role j) (sym p ∙ e ∙ q)
+      lies : Bool
+      lies = roleOrder (tableOf s) (role k) (role j)
 
-      go : Dec (k ≡ n) → (ltb k n && roleOrder (tableOf s) (role k) (role j)) || eqb k n ≡ ltb k (n + 1) && roleOrder (tableOf s) (role k) (role j)
+      go : Dec (k ≡ n) → (ltb k n && lies) || (eqb k n && b) ≡ ltb k (n + 1) && lies
       go (yes z) =
-          ap (λ b. (ltb k n && roleOrder (tableOf s) (role k) (role j)) || b) (eq-eqb k n z) ∙ or-true (ltb k n && roleOrder (tableOf s) (role k) (role j))
-          ∙ sym (ap₂ _&&_ (lt-ltb k (n + 1) (omega arith)) (ap (λ (i : ℕ). roleOrder (tableOf s) (role i) (role j)) z ∙ same))
-      go (no z) =
-          ap (λ b. (ltb k n && roleOrder (tableOf s) (role k) (role j)) || b) (ne-eqb k n z) ∙ or-false (ltb k n && roleOrder (tableOf s) (role k) (role j))
-          ∙ next-below k n (roleOrder (tableOf s) (role k) (role j)) z
+          ap₂ (λ u v. (u && lies) || (v && b)) (le-ltb k n (omega arith)) (eq-eqb k n z)
+          ∙ sym (ap (λ u. u && lies) (lt-ltb k (n + 1) (omega arith)) ∙ ap (λ (i : ℕ). roleOrder (tableOf s) (role i) (role j)) z ∙ e)
+      go (no z) = ap (λ v. (ltb k n && lies) || (v && b)) (ne-eqb k n z) ∙ or-false (ltb k n && lies) ∙ next-below k n lies z
 
-  pub over-miss : (n m a b : ℕ) → a ≡ role n → b ≡ role j → (a ≡ b → ⊥) → Over s j n m → Over s j (n + 1) m
-  unfolding Over
-  over-miss n m a b p q e f k = f k ∙ go (ℕ-discrete k n)
-    where
-      other : roleOrder (tableOf s) (role n) (role j) ≡ false
-      other = roleOrder-other (tableOf s) (role n) (role j) (λ z. e (p ∙ z ∙ sym q))
+  pub over-hit : (n m : ℕ) → n < setBits → roleOrder (tableOf s) (role n) (role j) ≡ true → Over s j n m → Over s j (n + 1) (bitOr m (1 * 2 ^ n % setNumbers))
+  over-hit n m h e =
+      over-next n m (bitOr m (1 * 2 ^ n % setNumbers)) true e
+      (λ k. bit-or k m (1 * 2 ^ n % setNumbers) ∙ ap (λ u. bit k m || u) (ap (bit k) (power-fits n h) ∙ bit-power k n ∙ sym (and-true (eqb k n))))
 
-      go : Dec (k ≡ n) → ltb k n && roleOrder (tableOf s) (role k) (role j) ≡ ltb k (n + 1) && roleOrder (tableOf s) (role k) (role j)
-      go (yes z) =
-          ap (λ b. b && roleOrder (tableOf s) (role k) (role j)) (le-ltb k n (omega arith))
-          ∙ sym (ap (λ b. ltb k (n + 1) && b) (ap (λ (i : ℕ). roleOrder (tableOf s) (role i) (role j)) z ∙ other) ∙ and-false (ltb k (n + 1)))
-      go (no z) = next-below k n (roleOrder (tableOf s) (role k) (role j)) z
+  pub over-miss : (n m : ℕ) → roleOrder (tableOf s) (role n) (role j) ≡ false → Over s j n m → Over s j (n + 1) m
+  over-miss n m e = over-next n m m false e (λ k. sym (ap (λ u. bit k m || u) (and-false (eqb k n)) ∙ or-false (bit k m)))
 
   pub over-whole : (e n m : ℕ) → e ≤ n → n ≤ e → Over s j n m → Over s j e m
   over-whole e n m h l f = subst (λ (i : ℕ). Over s j i m) (let q : n ≡ e = omega arith in q) f
@@ -74,6 +72,25 @@ module _ (s : List ℕ) (j : ℕ) where
 over-at : (s : List ℕ) (j n m : ℕ) → Over s j n m → (k : ℕ) → k < n → bit k m ≡ roleOrder (tableOf s) (rowAt (tableOf s .rows) k .role) (rowAt (tableOf s .rows) j .role)
 unfolding Over
 over-at s j n m f k q = f k ∙ ap (λ b. b && roleOrder (tableOf s) (rowAt (tableOf s .rows) k .role) (rowAt (tableOf s .rows) j .role)) (lt-ltb k n q)
+
+-- the roles of two rows have masks, and what these say
+module _ (s : List ℕ) (ok : T (isReadable (reading s))) (under : List ℕ) (is : RolesUnder (tableOf s) under) where
+  pub role-low : (k : ℕ) → k < headerOf s .e → rowAt (tableOf s .rows) k .role < maxRoles
+  unfolding rowAt
+  role-low k h =
+      let l = layout s ok in
+      let row = rowAt (tableOf s .rows) k in
+      let d = everyOf-at (rowDeclared (tableOf s)) (tableOf s .rows) k (record { role = 0; filler = topF }) (rows-declared (tableOf s) (l .all-declared)) (let e = l .rows in omega arith) in
+      let roles : tableOf s .roles ≡ headerOf s .r = l .roles in
+      let few : headerOf s .r ≤ maxRoles = l .few-roles in
+      let n : row .role < tableOf s .roles = ltb→lt (row .role) (tableOf s .roles) (and-left (ltb (row .role) (tableOf s .roles)) (fillerDeclared (tableOf s) (row .filler)) d) in
+      omega arith
+
+  pub lies-by : (j k a b near : ℕ) (t : Bool) → j < headerOf s .e → k < headerOf s .e → a ≡ rowAt (tableOf s .rows) j .role → b ≡ rowAt (tableOf s .rows) k .role
+      → near ≡ getD under a 0 → bit b near ≡ t → roleOrder (tableOf s) (rowAt (tableOf s .rows) k .role) (rowAt (tableOf s .rows) j .role) ≡ t
+  lies-by j k a b near t hj hk p q e u =
+      sym (under-bit (tableOf s) under is (rowAt (tableOf s .rows) k .role) (rowAt (tableOf s .rows) j .role) (role-low k hk) (role-low j hj))
+      ∙ ap₂ (λ (x y : ℕ). bit x (getD under y 0)) (sym q) (sym p) ∙ ap (bit b) (sym e) ∙ u
 
 pub rows-start : (s : List ℕ) → RowsTo s 0 (replicate maxAtoms 0) (replicate maxAtoms 0)
 rows-start s =

@@ -5,6 +5,7 @@
 // set number, lies below one atom; whether it lies below every atom of another; and whether one filler lies below another. Each time
 // round one dependence less is left. An atom that both sets have lies below itself, so only the missing ones are asked; a missing
 // constant decides at once, so restrictions are left.
+use bounds::RoleMask;
 use bounds::RowMask;
 use bounds::SetNumber;
 use table::Kind;
@@ -19,6 +20,7 @@ ghost use Rattle.el.specs.Assignment.{induced};
 ghost use Rattle.el.specs.Meaning.{holds};
 ghost use Rattle.table.specs.Reading.{headerOf, isReadable, reading, tableOf};
 ghost use Rattle.table.specs.Layout.{LineBegins, AtLine};
+ghost use Rattle.roles.specs.Under.{RolesUnder};
 ghost use Rattle.order.specs.Rule.{isConstant, flatTest, fillerSet, entrySet, leftSet};
 ghost use Rattle.order.specs.Given.{fillerFrom, entryFrom, FillerFits, EntryFits, Over, RowsGiven, SetsGiven, Asking, LineGiven};
 ghost use Rattle.order.specs.Asked.{Lowest, setAsked, eachAsked, fillerAsked};
@@ -30,16 +32,16 @@ pub struct Rows {
     pub inner: [u8; bounds::MAX_ATOMS],
 }
 
-// The rows whose roles lie under row j's.
-fn row_over(table: &[u8], e: usize, j: usize) -> RowMask
-    requires { ⌜ T (isReadable (reading (now table))) × (e ≡ headerOf (now table) .e) × (j < e) ⌝ }
+// The rows whose roles lie under row j's, by the masks of the roles that lie under each role.
+fn row_over(table: &[u8], under: &[RoleMask], e: usize, j: usize) -> RowMask
+    requires { ⌜ T (isReadable (reading (now table))) × RolesUnder (tableOf (now table)) (now under) × (e ≡ headerOf (now table) .e) × (j < e) ⌝ }
     ensures { λ r. ⌜ Over (now (table .entry)) j e r ⌝ }
 {
-    let role = table::role_of(table, j);
+    let near = under[table::wide(table::role_of(table, j))];
     let mut mask: RowMask = 0;
     let mut k = 0;
     while k < e {
-        if table::role_of(table, k) == role {
+        if roles::has_role(near, table::wide(table::role_of(table, k))) {
             mask = mask | (1 << k);
         }
         k += 1;
@@ -51,11 +53,13 @@ pub fn rows_of(table: &[u8], e: usize) -> Rows
     requires { ⌜ T (isReadable (reading (now table))) × (e ≡ headerOf (now table) .e) ⌝ }
     ensures { λ r. ⌜ RowsGiven (now (table .entry)) (r .over) (r .inner) ⌝ }
 {
+    let q = table::wide(table::header_of(table).q);
+    let under = roles::roles_under(table, q).mask;
     let mut over: [RowMask; bounds::MAX_ATOMS] = [0; bounds::MAX_ATOMS];
     let mut inner: [u8; bounds::MAX_ATOMS] = [0; bounds::MAX_ATOMS];
     let mut j = 0;
     while j < e {
-        over[j] = row_over(table, e, j);
+        over[j] = row_over(table, &under, e, j);
         inner[j] = table::filler_of(table, j);
         j += 1;
     }

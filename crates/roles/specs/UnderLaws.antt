@@ -3,7 +3,7 @@
 --   alone-start, alone-next, alone-whole == each role under itself alone, one more at a time
 --   widened-start, widened-hit, widened-miss, widened-whole == one role row more, role by role
 --   under-start, under-next, under-turn, under-whole == from the last role row to the first
---   under-bit                            == a bit of the masks, by the roles
+--   under-many, under-bit                == how many masks there are, and a bit of them, by the roles
 --   row-low                              == the roles of a readable table's role rows have a mask
 use mathlib.Core.Path.{_≡_, refl, sym, ap, ap₂, subst, _∙_}
 use mathlib.Core.Bool.{Bool, true, false, _&&_, _||_, and-true, and-false, or-false}
@@ -122,6 +122,10 @@ module _ (t : Table) where
   pub under-whole : (k : ℕ) (masks : List ℕ) → k ≤ 0 → UnderFrom t k masks → RolesUnder t masks
   unfolding UnderFrom RolesUnder roleOrder
   under-whole k masks h f = subst (λ (i : ℕ). Says (reachesRole (drop i (t .roleRows))) masks) (let e : k ≡ 0 = omega arith in e) f
+
+  pub under-many : (masks : List ℕ) → RolesUnder t masks → length masks ≡ maxRoles
+  unfolding RolesUnder
+  under-many masks f = f .many
 
   pub under-bit : (masks : List ℕ) → RolesUnder t masks → (r s : ℕ) → r < maxRoles → s < maxRoles → bit r (getD masks s 0) ≡ roleOrder t r s
   unfolding RolesUnder

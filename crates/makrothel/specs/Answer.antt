@@ -1,7 +1,7 @@
 -- What the public calls answer.
 --
 --   readAs a h   == what the reader hands back under the answer a and the counts h
---   readAnswer r == the reader's number, place and five counts for a reading
+--   readAnswer r == the reader's number, place and counts for a reading
 --   hasLine s n  == are the bytes s readable, and is there a line n?
 --   lineSpan s n == the byte where line n of the bytes s begins, and its length; zeros where there is none; `spanIf`, by whether it is there
 --   linePart s n == the bytes there
@@ -22,14 +22,14 @@ use Rattle.table.specs.Layout.{lineStart}
 use Rattle.makrothel.specs.declared.ReadAnswer.{ReadAnswer}
 use Rattle.makrothel.specs.declared.Span.{Span}
 
--- a number and a place of the table of answers, and five counts
+-- a number and a place of the table of answers, and the counts
 abbrev pub readAs : Answer → Header → ReadAnswer
-readAs a h = record { number = handed a .number; place = handed a .place; constants = h .c; roles = h .r; variables = h .v; restrictions = h .e; lines = h .m }
+readAs a h = record { number = handed a .number; place = handed a .place; constants = h .c; roles = h .r; variables = h .v; restrictions = h .e; lines = h .m; inclusions = h .q }
 
 abbrev pub zeros : Header
-zeros = record { c = 0; r = 0; v = 0; e = 0; m = 0 }
+zeros = record { version = 0; c = 0; r = 0; v = 0; e = 0; m = 0; q = 0 }
 
--- "The reader answers 0 to 6 with the same places, and the five counts (zeros when refused)."
+-- "The reader answers 0 to 6 with the same places, and the five counts (zeros when refused)."; "The reader hands back q too (0 in version 1)"
 unfoldable pub readAnswer : Reading → ReadAnswer
 readAnswer (refusal why) = readAs why zeros
 readAnswer (readable h t) = readAs (Solved 0) h

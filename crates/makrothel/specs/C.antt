@@ -1,6 +1,6 @@
 -- What the calls for C hand back through the arrays that the caller lends.
 --
---   placeAndCounts a == the reader's place and its counts c, r, v, e, m
+--   placeAndCounts a == the reader's place and its counts c, r, v, e, m, q
 --   lineFound s n    == 1 where there is a line n, and 0 where there is none
 --   startAndLength x == the byte where a line starts and its length
 --   spanned x s      == the part of the bytes s that a start and a length name
@@ -15,7 +15,7 @@ use Rattle.makrothel.specs.declared.Span.{Span}
 use Rattle.makrothel.specs.Answer.{hasLine}
 
 unfoldable pub placeAndCounts : ReadAnswer → List ℕ
-placeAndCounts a = a .place ∷ a .constants ∷ a .roles ∷ a .variables ∷ a .restrictions ∷ a .lines ∷ []
+placeAndCounts a = a .place ∷ a .constants ∷ a .roles ∷ a .variables ∷ a .restrictions ∷ a .lines ∷ a .inclusions ∷ []
 
 unfoldable pub lineFound : List ℕ → ℕ → ℕ
 lineFound s n = cond (hasLine s n) 1 0

@@ -40,7 +40,8 @@ use Rattle.makrothel.specs.Demand2.{table-is, demand-2-solved, demand-2-
 
 -- a readable input is the bytes of its table
 pub is-table : (s : List ℕ) (h : Header) (t : Table) → reading s ≡ readable h t → IsTable s t
-is-table s h t e = readable-exactly s h t .0 e .0
+unfolding IsTable
+is-table s h t e = let w = readable-exactly s h t .0 e in (h .version, w .0, w .1)
 
 pub readable-table : (s : List ℕ) → T (isReadable (reading s)) → IsTable s (tableOf s)
 unfolding tableOf
@@ -58,7 +59,7 @@ module _ (s : List ℕ) (b : ℕ) (out : List ℕ) where
 
   pub answer-short : (t : Table) → IsTable s t → length out < setBytes * t .variables → answer s b out ≡ answered (OutputShort (setBytes * t .variables)) out
   unfolding answer tableAs
-  answer-short t is l = ap (λ (r : Reading). readingAs r b out) (table-read s t is) ∙ rw (lt-ltb (length out) (setBytes * t .variables) l, tableAs)
+  answer-short t is l = ap (λ (r : Reading). readingAs r b out) (table-read s t is .1) ∙ rw (lt-ltb (length out) (setBytes * t .variables) l, tableAs)
 
   abbrev Row : Answer → Type 0
   Row a = NumberAt s b (length out) a
@@ -168,6 +169,8 @@ pub demand-1-read-refused : (s : List ℕ) (why : Answer) → RefusedAt s why �
 unfolding readAnswer
 demand-1-read-refused s why r = ap readAnswer (means-refusal s why r)
 
-pub demand-1-read : (s : List ℕ) (t : Table) → IsTable s t → readAnswer (reading s) ≡ readAs (Solved 0) (countsOf t)
-unfolding readAnswer
-demand-1-read s t is = ap readAnswer (table-read s t is)
+pub demand-1-read : (s : List ℕ) (t : Table) → IsTable s t
+    → readAnswer (reading s)
+    ≡ record { number = 0; place = 0; constants = t .constants; roles = t .roles; variables = t .variables; restrictions = length (t .rows); lines = length (t .lines); inclusions = length (t .roleRows) }
+unfolding readAnswer countsOf
+demand-1-read s t is = ap readAnswer (table-read s t is .1)

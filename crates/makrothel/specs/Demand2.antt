@@ -56,18 +56,18 @@ first-none t a f n = n a (f .0) (f .1)
 module _ (s : List ℕ) (t : Table) (is : IsTable s t) where
   pub table-is : t ≡ tableOf s
   unfolding tableOf
-  table-is = sym (ap theTable (table-read s t is))
+  table-is = sym (ap theTable (table-read s t is .1))
 
   -- a readable table declares all it names
   pub known : T (declared t)
   known =
       subst (λ (u : Table). T (declared u)) (sym table-is)
-      (layout s (subst (λ (r : Reading). T (isReadable r)) (sym (table-read s t is)) tt) .all-declared)
+      (layout s (subst (λ (r : Reading). T (isReadable r)) (sym (table-read s t is .1)) tt) .all-declared)
 
 module _ (s : List ℕ) (t : Table) (is : IsTable s t) (b : ℕ) (out : List ℕ) (room : setBytes * t .variables ≤ length out) where
   pub answer-outcome : answer s b out ≡ outcomeAs (outcome (roleOrder t) t b) out
   unfolding answer tableAs
-  answer-outcome = ap (λ (r : Reading). readingAs r b out) (table-read s t is) ∙ rw (le-ltb (length out) (setBytes * t .variables) room, tableAs)
+  answer-outcome = ap (λ (r : Reading). readingAs r b out) (table-read s t is .1) ∙ rw (le-ltb (length out) (setBytes * t .variables) room, tableAs)
 
   -- BUDGET
   pub demand-2-budget : b < N t → answer s b out ≡ answered (Budget b) out

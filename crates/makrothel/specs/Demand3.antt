@@ -14,7 +14,7 @@ use native.Mathlib.Omega.{arith}
 use lib.Dec.{T}
 use lib.ListN.{length, take}
 use Rattle.bounds.specs.Bounds.{setBytes}
-use Rattle.el.specs.OrderLaws.{roleOrder-refl, roleOrder-trans}
+use Rattle.el.specs.RoleLaws.{roleOrder-refl, roleOrder-trans}
 use Rattle.el.specs.Table.{Table, declared, roleOrder}
 use Rattle.el.specs.Meaning.{Substitution, makes}
 use Rattle.el.specs.Assignment.{Assignment, IsAssignment, induced}

@@ -2,7 +2,8 @@
 --
 --   filler-code, entry-code == a code that is allowed under two headers writes the same under both
 --   begins       == things whose bytes stand first stand first
---   row-told, line-told == rows and lines are told from their bytes
+--   role-row-told, row-told, line-told == role rows, rows and lines are told from their bytes
+--   role-row-bytes, row-bytes, line-bytes == the bytes of a readable table's role rows, rows and lines
 --   grown-grows  == the table of the grown bytes grows from the other's
 --   grown-lines  == and where no line is new it has the same lines
 use mathlib.Core.Path.{_≡_, refl, sym, ap, ap₂, subst, _∙_}
@@ -12,22 +13,25 @@ use mathlib.Core.Option.{some, Option·none-ne-some, Option·some-injective}
 use Prim.Native.Nat.{ℕ, _*_, _≤_}
 use native.Mathlib.Omega.{arith}
 use lib.Dec.{T, ltb}
-use lib.ListN.{length, drop, drop-of-length-le}
+use lib.ListN.{length, take, drop, drop-of-length-le}
 use lib.Seq.{take-at, drop-at, drop-drop}
 use Rattle.el.specs.Test.{everyOf}
 use Rattle.el.specs.TestLaws.{and-left, and-right}
-use Rattle.el.specs.Table.{Filler, constantF, variableF, Entry, constant, restriction, variable, Row, Line, Table, rowDeclared, entryDeclared, lineDeclared, declared}
+use Rattle.el.specs.Roles.{RoleRow}
+use Rattle.el.specs.Table.{Filler, constantF, variableF, Entry, constant, restriction, variable, Row, Line, Table, roleRowDeclared, rowDeclared, entryDeclared, lineDeclared}
+use Rattle.el.specs.TableLaws.{role-rows-declared, rows-declared, lines-declared}
 use Rattle.el.specs.Growth.{Grows}
 use Rattle.table.specs.declared.Kind.{Kind}
 use Rattle.table.specs.declared.Kind.the-variants.{Top, Constant, Restriction, Variable, Other}
 use Rattle.table.specs.Code.{kindOf, fillerOfKind, fillerOf, entryOfKind, entryOf}
-use Rattle.table.specs.Reading.{headerLength, reading, isReadable, tableOf}
-use Rattle.table.specs.Bytes.{fillerCode, entryCode, writtenHeader, writtenRow, writtenEntry, writtenLine, bytesWith, countsOf, bytesOf, IsTable}
+use Rattle.table.specs.Reading.{headerEnd, headerOf, rowsAt, reading, isReadable, tableOf}
+use Rattle.table.specs.Bytes.{fillerCode, entryCode, writtenHeader, writtenRoleRow, writtenRow, writtenEntry, writtenLine, bytesWith}
 use Rattle.table.specs.Layout.{Layout}
 use Rattle.table.specs.CodeLaws.{within-some, filler-is, entry-is}
 use Rattle.table.specs.LayoutLaws.{layout}
-use Rattle.makrothel.specs.Grown.{rowBytes, lineBytes, Grown, SameLines}
-use Rattle.makrothel.specs.Demand1.{readable-table}
+use Rattle.table.specs.StandsLaws.{header-length}
+use Rattle.table.specs.LengthLaws.{role-rows-length, rows-length}
+use Rattle.makrothel.specs.Grown.{roleRowBytes, rowBytes, lineBytes, Grown, SameLines}
 
 ----------------------------------------------------------------------------------------------------
 -- Codes keep their meaning
@@ -71,6 +75,14 @@ begins w p q told (x ∷ xs) (y ∷ ys) a b h l m e =
     let r = begins w p q told xs ys (and-right (p x) _ a) (and-right (q y) _ b) (omega arith) l m (t .1) in
     (ap₂ _∷_ (t .0) (r .0), r .1)
 
+role-row-told : (p q : RoleRow → Bool) → Told writtenRoleRow p q
+unfolding writtenRoleRow
+role-row-told p q x y a b l m e =
+    let n : y .narrower ≡ x .narrower = cc in
+    let w : y .wider ≡ x .wider = cc in
+    let k : m ≡ l = cc in
+    (ap₂ (λ (i j : ℕ). record { narrower = i; wider = j }) n w, k)
+
 module _ (t u : Table) (few-t : t .constants ≤ 0x20) (few-u : u .constants ≤ 0x20) (rows-t : length (t .rows) ≤ 0x20) (rows-u : length (u .rows) ≤ 0x20) where
   row-told : Told writtenRow (rowDeclared t) (rowDeclared u)
   unfolding writtenRow
@@ -107,32 +119,44 @@ module _ (t u : Table) (few-t : t .constants ≤ 0x20) (few-u : u .constants ≤
       (ap₂ (λ (p : List Entry) (q : Entry). record { left = p; right = q }) (r .0 ∙ ap (λ (z : List Entry). x .left ++ z) d ∙ append-nil (x .left)) (i .0), i .1)
 
 ----------------------------------------------------------------------------------------------------
--- The rows and lines of the grown table
+-- The role rows, rows and lines of the grown table
 
-rows-length : (rows : List Row) → length (flatMap writtenRow rows) ≡ 2 * length rows
-unfolding writtenRow flatMap
-rows-length [] = refl
-rows-length (row ∷ rows) = omega (arith, rows-length rows)
-
--- the bytes of the rows and of the lines are those rows and lines, written
-written-parts : (t : Table) → (rowBytes (bytesOf t) ≡ flatMap writtenRow (t .rows)) × (lineBytes (bytesOf t) ≡ flatMap writtenLine (t .lines))
-unfolding rowBytes lineBytes bytesOf bytesWith writtenHeader countsOf
-written-parts t = (
-  take-at (flatMap writtenRow (t .rows)) _ _ (rows-length (t .rows)),
-  sym (drop-drop (2 * length (t .rows)) headerLength (bytesOf t)) ∙ drop-at (flatMap writtenRow (t .rows)) _ _ (rows-length (t .rows)),
-)
-
+-- the bytes of the role rows, of the rows and of the lines of a readable table are those, written
 module _ (s : List ℕ) (ok : T (isReadable (reading s))) where
+  here-is : Layout s (tableOf s)
+  here-is = layout s ok
+
   few : (tableOf s .constants ≤ 0x20) × (length (tableOf s .rows) ≤ 0x20)
-  few = (omega (arith, layout s ok .constants, layout s ok .few-atoms), omega (arith, layout s ok .rows, layout s ok .few-atoms))
+  few = (omega (arith, here-is .constants, here-is .few-atoms), omega (arith, here-is .rows, here-is .few-atoms))
 
-  parts : (rowBytes s ≡ flatMap writtenRow (tableOf s .rows)) × (lineBytes s ≡ flatMap writtenLine (tableOf s .lines))
-  unfolding IsTable
-  parts = subst (λ (x : List ℕ). (rowBytes x ≡ flatMap writtenRow (tableOf s .rows)) × (lineBytes x ≡ flatMap writtenLine (tableOf s .lines))) (sym (readable-table s ok .0)) (written-parts (tableOf s))
+  long-role-rows : length (flatMap writtenRoleRow (tableOf s .roleRows)) ≡ 2 * headerOf s .q
+  long-role-rows = role-rows-length (tableOf s .roleRows) ∙ ap (λ (k : ℕ). 2 * k) (here-is .role-rows)
 
-  right : T (everyOf (rowDeclared (tableOf s)) (tableOf s .rows)) × T (everyOf (lineDeclared (tableOf s)) (tableOf s .lines))
-  unfolding declared
-  right = let d = layout s ok .all-declared in (and-left (everyOf (rowDeclared (tableOf s)) (tableOf s .rows)) _ d, and-right (everyOf (rowDeclared (tableOf s)) (tableOf s .rows)) _ d)
+  long-rows : length (flatMap writtenRow (tableOf s .rows)) ≡ 2 * headerOf s .e
+  long-rows = rows-length (tableOf s .rows) ∙ ap (λ (k : ℕ). 2 * k) (here-is .rows)
+
+  behind-header : drop (headerEnd (headerOf s)) s ≡ flatMap writtenRoleRow (tableOf s .roleRows) ++ (flatMap writtenRow (tableOf s .rows) ++ flatMap writtenLine (tableOf s .lines))
+  unfolding bytesWith
+  behind-header = ap (drop (headerEnd (headerOf s))) (here-is .whole) ∙ drop-at (writtenHeader (headerOf s)) _ _ (header-length (headerOf s))
+
+  behind-role-rows : drop (rowsAt s) s ≡ flatMap writtenRow (tableOf s .rows) ++ flatMap writtenLine (tableOf s .lines)
+  behind-role-rows =
+      sym (drop-drop (2 * headerOf s .q) (headerEnd (headerOf s)) s) ∙ ap (drop (2 * headerOf s .q)) behind-header
+      ∙ drop-at (flatMap writtenRoleRow (tableOf s .roleRows)) _ _ long-role-rows
+
+  role-row-bytes : roleRowBytes s ≡ flatMap writtenRoleRow (tableOf s .roleRows)
+  unfolding roleRowBytes
+  role-row-bytes = ap (take (2 * headerOf s .q)) behind-header ∙ take-at (flatMap writtenRoleRow (tableOf s .roleRows)) _ _ long-role-rows
+
+  row-bytes : rowBytes s ≡ flatMap writtenRow (tableOf s .rows)
+  unfolding rowBytes
+  row-bytes = ap (take (2 * headerOf s .e)) behind-role-rows ∙ take-at (flatMap writtenRow (tableOf s .rows)) _ _ long-rows
+
+  line-bytes : lineBytes s ≡ flatMap writtenLine (tableOf s .lines)
+  unfolding lineBytes
+  line-bytes =
+      sym (drop-drop (2 * headerOf s .e) (rowsAt s) s) ∙ ap (drop (2 * headerOf s .e)) behind-role-rows
+      ∙ drop-at (flatMap writtenRow (tableOf s .rows)) _ _ long-rows
 
 module _ (s u : List ℕ) (grown : Grown s u) where
   ok : T (isReadable (reading s))
@@ -147,15 +171,22 @@ module _ (s u : List ℕ) (grown : Grown s u) where
   there : Layout u (tableOf u)
   there = layout u ko
 
+  same-role-rows : tableOf u .roleRows ≡ tableOf s .roleRows
+  same-role-rows =
+      let r = begins writtenRoleRow (roleRowDeclared (tableOf s)) (roleRowDeclared (tableOf u)) (role-row-told (roleRowDeclared (tableOf s)) (roleRowDeclared (tableOf u))) (tableOf s .roleRows) (tableOf u .roleRows) (role-rows-declared (tableOf s) (here .all-declared)) (role-rows-declared (tableOf u) (there .all-declared))
+      (omega (arith, here .role-rows, there .role-rows, grown .role-count)) [] [] (ap (λ (z : List ℕ). z ++ []) (sym (role-row-bytes u ko) ∙ grown .role-rows ∙ role-row-bytes s ok)) in
+      r .0 ∙ ap (λ (z : List RoleRow). tableOf s .roleRows ++ z) (drop-of-length-le (tableOf u .roleRows) {i = length (tableOf s .roleRows)} (omega (arith, here .role-rows, there .role-rows, grown .role-count)))
+      ∙ append-nil (tableOf s .roleRows)
+
   rows-begin : tableOf u .rows ≡ tableOf s .rows ++ drop (length (tableOf s .rows)) (tableOf u .rows)
   rows-begin =
-      begins writtenRow (rowDeclared (tableOf s)) (rowDeclared (tableOf u)) (row-told (tableOf s) (tableOf u) (few s ok .0) (few u ko .0) (few s ok .1) (few u ko .1)) (tableOf s .rows) (tableOf u .rows) (right s ok .0) (right u ko .0)
-      (omega (arith, here .rows, there .rows, grown .restrictions)) (grown .rows-first .0) [] (append-nil _ ∙ sym (parts u ko .0) ∙ grown .rows-first .1 ∙ ap (λ (z : List ℕ). z ++ grown .rows-first .0) (parts s ok .0)) .0
+      begins writtenRow (rowDeclared (tableOf s)) (rowDeclared (tableOf u)) (row-told (tableOf s) (tableOf u) (few s ok .0) (few u ko .0) (few s ok .1) (few u ko .1)) (tableOf s .rows) (tableOf u .rows) (rows-declared (tableOf s) (here .all-declared)) (rows-declared (tableOf u) (there .all-declared))
+      (omega (arith, here .rows, there .rows, grown .restrictions)) (grown .rows-first .0) [] (append-nil _ ∙ sym (row-bytes u ko) ∙ grown .rows-first .1 ∙ ap (λ (z : List ℕ). z ++ grown .rows-first .0) (row-bytes s ok)) .0
 
   lines-begin : tableOf u .lines ≡ tableOf s .lines ++ drop (length (tableOf s .lines)) (tableOf u .lines)
   lines-begin =
-      begins writtenLine (lineDeclared (tableOf s)) (lineDeclared (tableOf u)) (line-told (tableOf s) (tableOf u) (few s ok .0) (few u ko .0) (few s ok .1) (few u ko .1)) (tableOf s .lines) (tableOf u .lines) (right s ok .1) (right u ko .1)
-      (omega (arith, here .lines, there .lines, grown .lines)) (grown .lines-first .0) [] (append-nil _ ∙ sym (parts u ko .1) ∙ grown .lines-first .1 ∙ ap (λ (z : List ℕ). z ++ grown .lines-first .0) (parts s ok .1)) .0
+      begins writtenLine (lineDeclared (tableOf s)) (lineDeclared (tableOf u)) (line-told (tableOf s) (tableOf u) (few s ok .0) (few u ko .0) (few s ok .1) (few u ko .1)) (tableOf s .lines) (tableOf u .lines) (lines-declared (tableOf s) (here .all-declared)) (lines-declared (tableOf u) (there .all-declared))
+      (omega (arith, here .lines, there .lines, grown .lines)) (grown .lines-first .0) [] (append-nil _ ∙ sym (line-bytes u ko) ∙ grown .lines-first .1 ∙ ap (λ (z : List ℕ). z ++ grown .lines-first .0) (line-bytes s ok)) .0
 
   -- GROWTH ON BYTES IS GROWTH ON TABLES
   pub grown-grows : Grows (tableOf s) (tableOf u)
@@ -163,6 +194,7 @@ module _ (s u : List ℕ) (grown : Grown s u) where
     constants = omega (arith, here .constants, there .constants, grown .constants);
     roles = omega (arith, here .roles, there .roles, grown .roles);
     variables = omega (arith, here .variables, there .variables, grown .variables);
+    roleRows = same-role-rows;
     rows = (drop (length (tableOf s .rows)) (tableOf u .rows), rows-begin);
     lines = (drop (length (tableOf s .lines)) (tableOf u .lines), lines-begin);
   }

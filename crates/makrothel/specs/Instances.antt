@@ -6,14 +6,16 @@
 --   p5-more, p8-more, p12-more    == a growth of each
 --   empty-.., longer-.., short-.. == demand 1 at inputs that are refused
 --   p5-.., p8-.., p9-.., p12-..   == the demands at the cases
+--   r2-.., r5-..                  == the demands at tables of version 2
+--   role-row-needed               == a "none" table that becomes "solved" by one more role row, and by nothing else
 use mathlib.Core.Path.{_≡_, refl, sym, ap, _∙_}
 use mathlib.Core.Logic.{_⊎_, inl, inr}
 use mathlib.Core.List.{List, [], _∷_, _++_}
 use Prim.Native.Nat.{ℕ, _*_, _≤_, _<_}
 use native.Mathlib.Omega.{arith}
 use lib.Dec.{T}
-use lib.ListN.{length}
-use Rattle.bounds.specs.Bounds.{Bounds, bounds, maxAtoms, maxRoles, maxVariables, maxLines, maxLeft, setBytes}
+use lib.ListN.{length, take}
+use Rattle.bounds.specs.Bounds.{Bounds, bounds, maxAtoms, maxRoles, maxVariables, maxLines, maxLeft, maxRoleRows, setBytes}
 use Rattle.el.specs.Table.{roleOrder}
 use Rattle.el.specs.Meaning.{Substitution, makes}
 use Rattle.el.specs.Assignment.{Assignment}
@@ -21,21 +23,21 @@ use Rattle.answer.specs.declared.Answer.{Answer}
 use Rattle.answer.specs.declared.Answer.the-variants.{Solved, EndsEarly, BytesAfter, OutputShort, Nothing, Budget}
 use Rattle.answer.specs.Handed.{handed}
 use Rattle.answer.specs.HandedLaws.{handed-apart}
-use Rattle.table.specs.Code.{kindOf, within, fillerOfKind, fillerOf, entryOfKind, entryOf}
-use Rattle.table.specs.Reading.{marked, versionOne, readCounts, readHeader, readMany, readRow, readEntry, readLine, readBody, readable, readingWithin, reading, headerOf, tableOf}
+use Rattle.table.specs.Code.{kindOf, within, roleOf, fillerOfKind, fillerOf, entryOfKind, entryOf}
+use Rattle.table.specs.Reading.{marked, versionKnown, hasRoleRows, headerEnd, roleCount, readCounts, readHeader, readMany, readPair, readCode, readLine, readBody, readable, readingWithin, reading, headerOf, tableOf}
 use Rattle.table.specs.WiderLaws.{readable-wider}
-use Rattle.table.specs.Bytes.{countsOf, IsTable}
+use Rattle.table.specs.Bytes.{IsTable}
 use Rattle.table.specs.Refusal.{RefusedAt, header-cut}
 use Rattle.table.specs.RefusalLaws.{refused-means}
 use Rattle.output.specs.Written.{littleEndian, assignmentBytes, written}
 use Rattle.makrothel.specs.Answer.{readAnswer}
 use Rattle.makrothel.specs.Numbers.{FirstSolving, NoneSolves, N, NumberAt, refused, Said}
 use Rattle.makrothel.specs.Solve.{Answered, answered, answer}
-use Rattle.makrothel.specs.Grown.{rowBytes, lineBytes, Grown, SameLines, SameAnswer}
+use Rattle.makrothel.specs.Grown.{roleRowBytes, rowBytes, lineBytes, Grown, SameLines, SameAnswer}
 use Rattle.makrothel.specs.Demand1.{is-table, demand-1-row, demand-1-only, demand-1-number, demand-1-refused, demand-1-short, demand-1-kept, demand-1-written, demand-1-read-refused, demand-1-read}
 use Rattle.makrothel.specs.Demand2.{demand-2-solved, demand-2-none, demand-2-budget, demand-2-no-budget, demand-2-decides, demand-2-solved-exactly, demand-2-none-exactly, demand-2-budget-exactly}
 use Rattle.makrothel.specs.Demand3.{demand-3-none, demand-3-solved, demand-3-grown, demand-3-widened, demand-3-budget}
-use Rattle.makrothel.specs.Cases.{Case, p5, p8, p9, p12, Is, Answers, cases-hold}
+use Rattle.makrothel.specs.Cases.{Case, p5, p8, p9, p12, r1, r2, r4, r5, Is, Answers, cases-hold}
 
 -- an output of eight bytes has room for two variables
 abbrev eight : List ℕ
@@ -45,7 +47,7 @@ eight = 1 ∷ 2 ∷ 3 ∷ 4 ∷ 5 ∷ 6 ∷ 7 ∷ 8 ∷ []
 -- The cases are readable, and their answers
 
 tables : IsTable (p5 .bytes) (tableOf (p5 .bytes)) × IsTable (p8 .bytes) (tableOf (p8 .bytes)) × IsTable (p12 .bytes) (tableOf (p12 .bytes))
-unfolding tableOf reading readBody readLine readEntry readRow readMany readHeader readCounts versionOne marked entryOf entryOfKind fillerOf fillerOfKind within kindOf
+unfolding tableOf reading readBody readLine readCode readPair readMany readHeader readCounts headerEnd roleCount hasRoleRows versionKnown marked roleOf entryOf entryOfKind fillerOf fillerOfKind within kindOf
 tables = (is-table (p5 .bytes) (headerOf (p5 .bytes)) _ refl, is-table (p8 .bytes) (headerOf (p8 .bytes)) _ refl, is-table (p12 .bytes) (headerOf (p12 .bytes)) _ refl)
 
 pub p5-table : IsTable (p5 .bytes) (tableOf (p5 .bytes))
@@ -59,17 +61,17 @@ p12-table = tables .2
 
 -- within larger bounds P8 is read as the same table
 abbrev larger : Bounds
-larger = record { atoms = 2 * maxAtoms; roles = maxRoles; variables = 2 * maxVariables; lines = maxLines; left = maxLeft }
+larger = record { atoms = 2 * maxAtoms; roles = maxRoles; variables = 2 * maxVariables; lines = maxLines; left = maxLeft; roleRows = maxRoleRows }
 
 pub p8-wider : readingWithin larger (p8 .bytes) ≡ readable (headerOf (p8 .bytes)) (tableOf (p8 .bytes))
-unfolding tableOf reading readBody readLine readEntry readRow readMany readHeader readCounts versionOne marked entryOf entryOfKind fillerOf fillerOfKind within kindOf
+unfolding tableOf reading readBody readLine readCode readPair readMany readHeader readCounts headerEnd roleCount hasRoleRows versionKnown marked roleOf entryOf entryOfKind fillerOf fillerOfKind within kindOf
 p8-wider =
-    readable-wider bounds larger (record { atoms = omega arith; roles = omega arith; variables = omega arith; lines = omega arith; left = omega arith })
+    readable-wider bounds larger (record { atoms = omega arith; roles = omega arith; variables = omega arith; lines = omega arith; left = omega arith; roleRows = omega arith })
     (p8 .bytes) (headerOf (p8 .bytes)) (tableOf (p8 .bytes)) refl
 
 -- how many variables they have
 variables : (tableOf (p5 .bytes) .variables ≡ 1) × (tableOf (p8 .bytes) .variables ≡ 2) × (tableOf (p12 .bytes) .variables ≡ 1)
-unfolding tableOf reading readBody readLine readEntry readRow readMany readHeader readCounts versionOne marked entryOf entryOfKind fillerOf fillerOfKind within kindOf
+unfolding tableOf reading readBody readLine readCode readPair readMany readHeader readCounts headerEnd roleCount hasRoleRows versionKnown marked roleOf entryOf entryOfKind fillerOf fillerOfKind within kindOf
 variables = (refl, refl, refl)
 
 room-p5 : setBytes * tableOf (p5 .bytes) .variables ≤ length eight
@@ -130,12 +132,12 @@ empty-only = ap handed (demand-1-only [] 5 eight (EndsEarly 0) (refused empty-re
 pub empty-kept : answer [] 5 eight .output ≡ eight
 empty-kept = demand-1-kept [] 5 eight (other (demand-1-only [] 5 eight (EndsEarly 0) (refused empty-refused)) (λ z. omega arith))
 
-pub empty-read : readAnswer (reading []) ≡ record { number = 1; place = 0; constants = 0; roles = 0; variables = 0; restrictions = 0; lines = 0 }
+pub empty-read : readAnswer (reading []) ≡ record { number = 1; place = 0; constants = 0; roles = 0; variables = 0; restrictions = 0; lines = 0; inclusions = 0 }
 empty-read = demand-1-read-refused [] (EndsEarly 0) empty-refused
 
 -- P8 has 18 bytes; one byte more is refused with 6 at 18
 pub longer-refused : RefusedAt (p8 .bytes ++ (0 ∷ [])) (BytesAfter 18)
-unfolding reading readBody readLine readEntry readRow readMany readHeader readCounts versionOne marked entryOf entryOfKind fillerOf fillerOfKind within kindOf
+unfolding reading readBody readLine readCode readPair readMany readHeader readCounts headerEnd roleCount hasRoleRows versionKnown marked roleOf entryOf entryOfKind fillerOf fillerOfKind within kindOf
 longer-refused = refused-means (p8 .bytes ++ (0 ∷ [])) (BytesAfter 18) refl
 
 pub longer-answer : handed (answer (p8 .bytes ++ (0 ∷ [])) 14 eight .says) ≡ record { number = 6; count = 0; place = 18 }
@@ -164,8 +166,8 @@ p12-kept = demand-1-kept (p12 .bytes) 33 eight (other (p12-none .1) (λ z. omega
 pub p8-behind : length (answer (p8 .bytes) 14 eight .output) ≡ 8
 p8-behind = demand-1-written (p8 .bytes) 14 eight p8-solved .1
 
-pub p12-read : readAnswer (reading (p12 .bytes)) ≡ record { number = 0; place = 0; constants = 2; roles = 1; variables = 1; restrictions = 3; lines = 3 }
-unfolding countsOf tableOf reading readBody readLine readEntry readRow readMany readHeader readCounts versionOne marked entryOf entryOfKind fillerOf fillerOfKind within kindOf
+pub p12-read : readAnswer (reading (p12 .bytes)) ≡ record { number = 0; place = 0; constants = 2; roles = 1; variables = 1; restrictions = 3; lines = 3; inclusions = 0 }
+unfolding tableOf reading readBody readLine readCode readPair readMany readHeader readCounts headerEnd roleCount hasRoleRows versionKnown marked roleOf entryOf entryOfKind fillerOf fillerOfKind within kindOf
 p12-read = demand-1-read (p12 .bytes) (tableOf (p12 .bytes)) p12-table
 
 ----------------------------------------------------------------------------------------------------
@@ -186,19 +188,37 @@ p12-more =
     ∷ 1 ∷ 0x60 ∷ 0x20 ∷ 1 ∷ 0x60 ∷ 0x21 ∷ 2 ∷ 0x40 ∷ 0x41 ∷ 0x42 ∷ 1 ∷ 0x43 ∷ 0x60 ∷ []
 
 p5-grown : Grown (p5 .bytes) p5-more
-unfolding rowBytes lineBytes reading readBody readLine readEntry readRow readMany readHeader readCounts versionOne marked entryOf entryOfKind fillerOf fillerOfKind within kindOf
+unfolding roleRowBytes rowBytes lineBytes reading readBody readLine readCode readPair readMany readHeader readCounts headerEnd roleCount hasRoleRows versionKnown marked roleOf entryOf entryOfKind fillerOf fillerOfKind within kindOf
 p5-grown =
-    record { readable-before = tt; readable-after = tt; version-low = refl; version-high = refl; constants = omega arith; roles = omega arith; variables = omega arith; restrictions = omega arith; lines = omega arith; rows-first = ([], refl); lines-first = ([], refl) }
+    record { readable-before = tt; readable-after = tt; version-low = refl; version-high = refl; constants = omega arith; roles = omega arith; variables = omega arith; restrictions = omega arith; lines = omega arith; role-count = refl; role-rows = refl; rows-first = ([], refl); lines-first = ([], refl) }
 
 p8-grown : Grown (p8 .bytes) p8-more
-unfolding rowBytes lineBytes reading readBody readLine readEntry readRow readMany readHeader readCounts versionOne marked entryOf entryOfKind fillerOf fillerOfKind within kindOf
+unfolding roleRowBytes rowBytes lineBytes reading readBody readLine readCode readPair readMany readHeader readCounts headerEnd roleCount hasRoleRows versionKnown marked roleOf entryOf entryOfKind fillerOf fillerOfKind within kindOf
 p8-grown =
-    record { readable-before = tt; readable-after = tt; version-low = refl; version-high = refl; constants = omega arith; roles = omega arith; variables = omega arith; restrictions = omega arith; lines = omega arith; rows-first = (1 ∷ 0x62 ∷ [], refl); lines-first = ([], refl) }
+    record { readable-before = tt; readable-after = tt; version-low = refl; version-high = refl; constants = omega arith; roles = omega arith; variables = omega arith; restrictions = omega arith; lines = omega arith; role-count = refl; role-rows = refl; rows-first = (1 ∷ 0x62 ∷ [], refl); lines-first = ([], refl) }
 
 p12-grown : Grown (p12 .bytes) p12-more
-unfolding rowBytes lineBytes reading readBody readLine readEntry readRow readMany readHeader readCounts versionOne marked entryOf entryOfKind fillerOf fillerOfKind within kindOf
+unfolding roleRowBytes rowBytes lineBytes reading readBody readLine readCode readPair readMany readHeader readCounts headerEnd roleCount hasRoleRows versionKnown marked roleOf entryOf entryOfKind fillerOf fillerOfKind within kindOf
 p12-grown =
-    record { readable-before = tt; readable-after = tt; version-low = refl; version-high = refl; constants = omega arith; roles = omega arith; variables = omega arith; restrictions = omega arith; lines = omega arith; rows-first = (0 ∷ 0x22 ∷ [], refl); lines-first = (1 ∷ 0x43 ∷ 0x60 ∷ [], refl) }
+    record { readable-before = tt; readable-after = tt; version-low = refl; version-high = refl; constants = omega arith; roles = omega arith; variables = omega arith; restrictions = omega arith; lines = omega arith; role-count = refl; role-rows = refl; rows-first = (0 ∷ 0x22 ∷ [], refl); lines-first = (1 ∷ 0x43 ∷ 0x60 ∷ [], refl) }
+
+-- R5 with a role, a constant, a variable and a row more; its version and its role rows stay
+abbrev r5-more : List ℕ
+r5-more = 0x56 ∷ 0x4F ∷ 0x43 ∷ 2 ∷ 0 ∷ 2 ∷ 4 ∷ 1 ∷ 3 ∷ 1 ∷ 3 ∷ 0 ∷ 2 ∷ 2 ∷ 1 ∷ 2 ∷ 0 ∷ 0 ∷ 0x20 ∷ 1 ∷ 0x20 ∷ 3 ∷ 0x21 ∷ 1 ∷ 0x40 ∷ 0x41 ∷ []
+
+r5-grown : Grown (r5 .bytes) r5-more
+unfolding roleRowBytes rowBytes lineBytes reading readBody readLine readCode readPair readMany readHeader readCounts headerEnd roleCount hasRoleRows versionKnown marked roleOf entryOf entryOfKind fillerOf fillerOfKind within kindOf
+r5-grown =
+    record { readable-before = tt; readable-after = tt; version-low = refl; version-high = refl; constants = omega arith; roles = omega arith; variables = omega arith; restrictions = omega arith; lines = omega arith; role-count = refl; role-rows = refl; rows-first = (3 ∷ 0x21 ∷ [], refl); lines-first = ([], refl) }
+
+-- R1 with a constant more
+abbrev r1-more : List ℕ
+r1-more = 0x56 ∷ 0x4F ∷ 0x43 ∷ 2 ∷ 0 ∷ 2 ∷ 2 ∷ 0 ∷ 2 ∷ 1 ∷ 0 ∷ 0 ∷ 0x20 ∷ 1 ∷ 0x20 ∷ 1 ∷ 0x40 ∷ 0x41 ∷ []
+
+r1-grown : Grown (r1 .bytes) r1-more
+unfolding roleRowBytes rowBytes lineBytes reading readBody readLine readCode readPair readMany readHeader readCounts headerEnd roleCount hasRoleRows versionKnown marked roleOf entryOf entryOfKind fillerOf fillerOfKind within kindOf
+r1-grown =
+    record { readable-before = tt; readable-after = tt; version-low = refl; version-high = refl; constants = omega arith; roles = omega arith; variables = omega arith; restrictions = omega arith; lines = omega arith; role-count = refl; role-rows = refl; rows-first = ([], refl); lines-first = ([], refl) }
 
 ----------------------------------------------------------------------------------------------------
 -- Demand 2
@@ -262,3 +282,50 @@ p8-larger-budget b h = demand-3-budget (p8 .bytes) 14 b eight eight (inl p8-solv
 
 pub p12-larger-budget : (b : ℕ) → 33 ≤ b → SameAnswer (p12 .bytes) (answer (p12 .bytes) 33 eight) (answer (p12 .bytes) b eight)
 p12-larger-budget b h = demand-3-budget (p12 .bytes) 33 b eight eight (inr p12-none) h room-p12
+
+----------------------------------------------------------------------------------------------------
+-- Role rows
+
+r-answers : (answer (r1 .bytes) 1 [] ≡ answered (Nothing 1) []) × (answer (r2 .bytes) 1 [] ≡ answered (Solved 1) []) × (answer (r5 .bytes) 1 [] ≡ answered (Solved 1) [])
+unfolding Answers written assignmentBytes
+r-answers =
+    let held = cases-hold .1 .1 .1 .1 .1 .1 .1 .1 .1 .1 .1 .1 in (
+      is r1 [] _ (Nothing 1) refl (held .0 1 (omega arith) [] (omega arith)),
+      is r2 [] _ (Solved 1) refl (held .1 .0 1 (omega arith) [] (omega arith)),
+      is r5 [] _ (Solved 1) refl (held .1 .1 .1 .1 .0 1 (omega arith) [] (omega arith)),
+    )
+
+r1-none : Said Nothing (answer (r1 .bytes) 1 [] .says)
+r1-none = (1, ap (λ (r : Answered). r .says) (r-answers .0))
+
+pub r2-solved : Said Solved (answer (r2 .bytes) 1 [] .says)
+r2-solved = (1, ap (λ (r : Answered). r .says) (r-answers .1))
+
+r5-solved : Said Solved (answer (r5 .bytes) 1 [] .says)
+r5-solved = (1, ap (λ (r : Answered). r .says) (r-answers .2))
+
+pub r1-any-depth : (γ : Substitution) → T (makes (roleOrder (tableOf (r1 .bytes))) (tableOf (r1 .bytes)) γ) → ⊥
+r1-any-depth = demand-3-none (r1 .bytes) 1 [] r1-none
+
+pub r2-some : (γ : Substitution) × T (makes (roleOrder (tableOf (r2 .bytes))) (tableOf (r2 .bytes)) γ)
+r2-some = demand-3-solved (r2 .bytes) 1 [] r2-solved
+
+pub r1-grown-never : (b : ℕ) (out : List ℕ) → Said Solved (answer r1-more b out .says) → ⊥
+r1-grown-never b out = demand-3-grown (r1 .bytes) r1-more r1-grown 1 b [] out r1-none
+
+pub r5-widened-never : (b : ℕ) (out : List ℕ) → Said Nothing (answer r5-more b out .says) → ⊥
+unfolding SameLines
+r5-widened-never b out = demand-3-widened (r5 .bytes) r5-more r5-grown 1 b [] out refl r5-solved
+
+-- R1 is "none" and R2 is "solved". R2 is R1 with one role row more: the mark, the version, the five counts, the rows and the lines are the
+-- same. So growth must keep the role rows, and R2 does not grow from R1.
+pub role-row-needed :
+    Said Nothing (answer (r1 .bytes) 1 [] .says) × Said Solved (answer (r2 .bytes) 1 [] .says) × (take 10 (r1 .bytes) ≡ take 10 (r2 .bytes))
+    × (rowBytes (r2 .bytes) ≡ rowBytes (r1 .bytes)) × (lineBytes (r2 .bytes) ≡ lineBytes (r1 .bytes)) × (Grown (r1 .bytes) (r2 .bytes) → ⊥)
+unfolding rowBytes lineBytes headerEnd roleCount hasRoleRows
+role-row-needed = (r1-none, r2-solved, refl, refl, refl, λ g. demand-3-grown (r1 .bytes) (r2 .bytes) g 1 1 [] [] r1-none r2-solved)
+
+-- the reader hands back q
+pub r4-read : readAnswer (reading (r4 .bytes)) ≡ record { number = 0; place = 0; constants = 1; roles = 3; variables = 0; restrictions = 2; lines = 2; inclusions = 3 }
+unfolding readAnswer reading readBody readLine readCode readPair readMany readHeader readCounts headerEnd roleCount hasRoleRows versionKnown marked roleOf entryOf entryOfKind fillerOf fillerOfKind within kindOf
+r4-read = refl

@@ -7,9 +7,9 @@ ghost use Rattle.makrothel.specs.Solve.{answer};
 ghost use Rattle.makrothel.specs.C.{placeAndCounts, lineFound, startAndLength, spanned, countAndPlace};
 use bounds::Count;
 
-// `read`: returns the number; the place and the five counts c, r, v, e, m are in the lent array.
+// `read`: returns the number; the place and the counts c, r, v, e, m, q are in the lent array.
 #[no_mangle]
-pub extern "C" fn makrothel_read(table: &[u8], numbers: &mut [u64; 6]) -> u32
+pub extern "C" fn makrothel_read(table: &[u8], numbers: &mut [u64; 7]) -> u32
     ensures number { λ r. ⌜ r ≡ readAnswer (reading (now (table .entry))) .number ⌝ }
     ensures numbers { λ _. ⌜ now (numbers .exit) ≡ placeAndCounts (readAnswer (reading (now (table .entry)))) ⌝ }
 {
@@ -21,6 +21,7 @@ pub extern "C" fn makrothel_read(table: &[u8], numbers: &mut [u64; 6]) -> u32
         a.variables as u64,
         a.restrictions as u64,
         a.lines as u64,
+        a.inclusions as u64,
     ];
     a.number
 }

@@ -17,7 +17,8 @@ use table::Verdict;
 use walk::End;
 use walk::Walked;
 
-// What the reader answers: 0 or the number of a refusal, its place, and the five counts, zeros when refused.
+// What the reader answers: 0 or the number of a refusal, its place, and the counts, zeros when refused; `inclusions` is q, the count of role
+// rows.
 pub struct ReadAnswer {
     pub number: u32,
     pub place: usize,
@@ -26,6 +27,7 @@ pub struct ReadAnswer {
     pub variables: u32,
     pub restrictions: u32,
     pub lines: u32,
+    pub inclusions: u32,
 }
 
 // What the reader hands back under an answer and these counts.
@@ -41,6 +43,7 @@ fn read_as(a: Answer, counts: Header) -> ReadAnswer
         variables: counts.v as u32,
         restrictions: counts.e as u32,
         lines: counts.m as u32,
+        inclusions: counts.q as u32,
     }
 }
 
@@ -52,11 +55,13 @@ pub fn read(table: &[u8]) -> ReadAnswer
         Verdict::Refused(why) => read_as(
             why,
             Header {
+                version: 0,
                 c: 0,
                 r: 0,
                 v: 0,
                 e: 0,
                 m: 0,
+                q: 0,
             },
         ),
         Verdict::Readable => read_as(Answer::Solved(0), table::header_of(table)),

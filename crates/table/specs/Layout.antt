@@ -18,6 +18,7 @@ use Rattle.el.specs.Roles.{RoleRow}
 use Rattle.el.specs.Table.{Entry, constant, Line, Table, rowAt, declared}
 use Rattle.table.specs.Code.{fillerOf, entryOf}
 use Rattle.bounds.specs.Bounds.{maxAtoms, maxRoles, maxVariables, maxLines, maxLeft, maxRoleRows}
+use Rattle.table.specs.Bytes.{bytesWith}
 use Rattle.table.specs.Reading.{byteAt, headerLength, headerOf, roleRowStart, widerPlace, rowStart, fillerPlace, tableOf}
 
 unfoldable pub roleRowAt : List RoleRow → ℕ → RoleRow
@@ -72,3 +73,4 @@ pub record Layout (s : List ℕ) (t : Table) : Type 0 where
       → entryOf (headerOf s .c) (headerOf s .e) (headerOf s .v) (byteAt s (lineStart s n + 1 + byteAt s (lineStart s n))) ≡ some (lineAt (t .lines) n .right)
   pub line-end : lineStart s (headerOf s .m) ≡ length s
   pub all-declared : T (declared t)
+  pub whole : s ≡ bytesWith (headerOf s) (t .roleRows) (t .rows) (t .lines)

@@ -120,6 +120,7 @@ module _ (s : List ℕ) (t : Table) (header : HeaderRead bounds s (headerOf s)) 
       let built = tableWith (headerOf s) (body .roleRows) (body .rows) (body .lines) in
       let stands = lines-there s (headerOf s) header (body .roleRows) (body .first) (body .role-rows-read) (body .rows) (body .mid) (body .rows-read) (body .all-rows) (body .lines) (body .end) (body .lines-read) in
       let long = header-long (headerOf s) in
+      let whole = first-all s (bytesWith (headerOf s) (body .roleRows) (body .rows) (body .lines)) (body .end) (stands .0) (body .nothing-left) in
       let role : (k : ℕ) (w : k < headerOf s .e) → rowAt (body .rows) k .role ≡ byteAt s (rowStart s k) = λ k w. sym (role-code (headerOf s .r) _ _ (row-there k w .first) .0) in
       let there : (k : ℕ) → widerPlace s k ≡ roleRowStart s k + 1 = λ k. omega arith in
       record {
@@ -146,10 +147,11 @@ module _ (s : List ℕ) (t : Table) (header : HeaderRead bounds s (headerOf s)) 
         line-left = λ n w. line-there n w .left-many;
         line-entry = λ n i w l. entries-there s (headerOf s) _ _ _ (line-there n w) .0 i (let e = line-there n w .left-many in omega arith);
         line-right = λ n w. entries-there s (headerOf s) _ _ _ (line-there n w) .1;
-        line-end = ap (lineStart s) (sym (body .all-lines)) ∙ sym (lines-each .1) ∙ stands .0 .1 ∙ sym (ap length (first-all s (bytesWith (headerOf s) (body .roleRows) (body .rows) (body .lines)) (body .end) (stands .0) (body .nothing-left)));
+        line-end = ap (lineStart s) (sym (body .all-lines)) ∙ sym (lines-each .1) ∙ stands .0 .1 ∙ sym (ap length whole);
         all-declared =
             all-declared built (stands .1 .role-rows-right) (stands .1 .rows-right)
             (everyOf-both (lineRight built) (lineRight built) (lineDeclared built) (body .lines) (λ l a d. and-right (leb (length (l .left)) maxLeft) (lineDeclared built l) a) (stands .1 .lines-right) (stands .1 .lines-right));
+        whole = whole;
       }
 
 pub readable-header : (s : List ℕ) (h : Header) (t : Table) → reading s ≡ readable h t → (h ≡ headerOf s) × (t ≡ tableOf s)

@@ -32,12 +32,12 @@ use Rattle.table.specs.BytesLaws.{readable-is-written}
 use Rattle.table.specs.Refusal.{Slot, aNarrower, aWider, aRole, aFiller, aCount, anEntry, nothing, Begins, Over, RefusedAt, header-cut, wrong-mark, wrong-version, over-bound, no-role-count, over-left, ends-early, not-allowed, bytes-after}
 use Rattle.table.specs.RefusalLaws.{refused-means, means-refusal}
 
-role-rows-length : (rows : List RoleRow) → length (flatMap writtenRoleRow rows) ≡ 2 * length rows
+pub role-rows-length : (rows : List RoleRow) → length (flatMap writtenRoleRow rows) ≡ 2 * length rows
 unfolding flatMap writtenRoleRow
 role-rows-length [] = refl
 role-rows-length (row ∷ rows) = let ih : length (flatMap writtenRoleRow rows) ≡ 2 * length rows = role-rows-length rows in omega arith
 
-rows-length : (rows : List Row) → length (flatMap writtenRow rows) ≡ 2 * length rows
+pub rows-length : (rows : List Row) → length (flatMap writtenRow rows) ≡ 2 * length rows
 unfolding flatMap writtenRow
 rows-length [] = refl
 rows-length (row ∷ rows) = let ih : length (flatMap writtenRow rows) ≡ 2 * length rows = rows-length rows in omega arith

@@ -4,8 +4,8 @@ use mathlib.Core.List.{List, [], _∷_}
 use Prim.Native.Nat.{ℕ}
 use Rattle.el.specs.Test.{bit}
 use Rattle.el.specs.Table.{rowAt, atoms}
-use Rattle.table.specs.Code.{kindOf, within, fillerOfKind, fillerOf, entryOfKind, entryOf}
-use Rattle.table.specs.Reading.{marked, versionOne, readCounts, readHeader, readMany, readRow, readEntry, readLine, readBody, reading, tableOf}
+use Rattle.table.specs.Code.{kindOf, within, roleOf, fillerOfKind, fillerOf, entryOfKind, entryOf}
+use Rattle.table.specs.Reading.{marked, versionKnown, hasRoleRows, headerEnd, roleCount, readCounts, readHeader, readMany, readPair, readCode, readLine, readBody, reading, tableOf}
 use Rattle.output.specs.Written.{numberAt}
 use Rattle.text.specs.Text.{decimalTo, decimal, behind, joined, numbersText, bytesText, hexText}
 use Rattle.text.specs.Listing.{fillerText, rowText, atomText, atomsIn, conjunctionText, setText, variableLine, variableLines, solvedText, firstLine, listingText}
@@ -20,7 +20,7 @@ pub several-and-none : listingText worked (record { number = 0; count = 14; plac
     ≡ 0x30 ∷ 0x20 ∷ 0x31 ∷ 0x34 ∷ 0x20 ∷ 0x30 ∷ 0x0A
     ∷ 0x76 ∷ 0x30 ∷ 0x3A ∷ 0x20 ∷ 0x63 ∷ 0x30 ∷ 0x20 ∷ 0x26 ∷ 0x20 ∷ 0x72 ∷ 0x30 ∷ 0x2E ∷ 0x76 ∷ 0x31 ∷ 0x0A
     ∷ 0x76 ∷ 0x31 ∷ 0x3A ∷ 0x20 ∷ 0x74 ∷ 0x6F ∷ 0x70 ∷ 0x0A ∷ []
-unfolding listingText firstLine solvedText variableLines variableLine setText conjunctionText atomsIn atomText rowText fillerText numberAt numbersText joined behind decimal decimalTo tableOf reading readBody readLine readEntry readRow readMany readHeader readCounts versionOne marked entryOf entryOfKind fillerOf fillerOfKind within kindOf rowAt atoms bit worked
+unfolding listingText firstLine solvedText variableLines variableLine setText conjunctionText atomsIn atomText rowText fillerText numberAt numbersText joined behind decimal decimalTo tableOf reading readBody readLine readCode readPair readMany readHeader readCounts headerEnd roleCount hasRoleRows versionKnown marked roleOf entryOf entryOfKind fillerOf fillerOfKind within kindOf rowAt atoms bit worked
 several-and-none = refl
 
 -- an empty input: `1 0 0`

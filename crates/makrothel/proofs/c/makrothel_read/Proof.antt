@@ -9,9 +9,9 @@ use Rattle.makrothel.proofs.c.makrothel_read.Tie as tie
 returns : tie.Need-returns
 unfolding placeAndCounts
 returns c =
-    let e = c .before .before .before .before .before .before .read .ensures in
+    let e = c .before .before .before .before .before .before .before .read .ensures in
     (ap (λ (a : ReadAnswer). a .number) e, ap placeAndCounts e)
 
 pub makrothel-read-spec : {M : Type 1} → statement M
 makrothel-read-spec =
-    tie.close (tie.spec (λ c κs. search needs) (λ c. search needs) (λ c. search needs) (λ c. search needs) (λ c. search needs) (λ c. search needs) returns)
+    tie.close (tie.spec (λ c κs. search needs) (λ c. search needs) (λ c. search needs) (λ c. search needs) (λ c. search needs) (λ c. search needs) (λ c. search needs) returns)

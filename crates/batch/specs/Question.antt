@@ -49,7 +49,7 @@ isQuestion q = leb 1 (q .kind) && (leb (q .kind) 3 && leb (q .length) most)
 
 -- `number place c r v e m`
 abbrev pub readNumbers : ReadAnswer → List ℕ
-readNumbers a = a .number ∷ a .place ∷ a .constants ∷ a .roles ∷ a .variables ∷ a .restrictions ∷ a .lines ∷ []
+readNumbers a = a .number ∷ a .place ∷ a .constants ∷ a .roles ∷ a .variables ∷ a .restrictions ∷ a .lines ∷ a .inclusions ∷ []
 
 unfoldable pub readReply : List ℕ → List ℕ
 readReply s = readText (readNumbers (readAnswer (reading s)))

@@ -82,6 +82,7 @@ fn read_reply(table: &[u8], line: &mut [u8]) -> usize
             a.variables as usize,
             a.restrictions as usize,
             a.lines as usize,
+            a.inclusions as usize,
         ],
         line,
     )

@@ -1,6 +1,6 @@
 -- What of a longer input the report looks at, and what it lists.
 --
---   answer-first == the first 699 bytes of an input are answered as the whole input is
+--   answer-first == the first 764 bytes of an input are answered as the whole input is
 --   longer-input == "a longer input gives the same answer": and so they are reported
 --   lines-same   == assignments that give the same sets are listed alike
 --   found-listed == THE ASSIGNMENT THAT WAS FOUND IS LISTED
@@ -47,7 +47,7 @@ unfolding variableLines
 lines-same t a b zero h = refl
 lines-same t a b (suc n) h = ap₂ _++_ (lines-same t a b n (λ x l. h x (omega arith))) (ap (λ (s : ℕ). variableLine t s n) (h n (omega arith)))
 
-module _ (t : Table) (fits : Fits t) (a : Assignment) (f : FirstSolving t a) where
+module _ (n : ℕ) (t : Table) (fits : Fits n t) (a : Assignment) (f : FirstSolving t a) where
   few-variables : t .variables ≤ maxVariables
   unfolding Fits countsOf
   few-variables = fits .counts .few-variables
@@ -73,7 +73,7 @@ pub found-listed : (s : List ℕ) (t : Table) → IsTable s t → N t ≤ listin
     → reportText s ≡ firstLine (handed (Solved (N t))) ++ variableLines t (setOf a) (t .variables)
 unfolding IsTable reportText answerText listingText
 found-listed s t is l a f =
-    let few : t .variables ≤ maxVariables = few-variables t (is .1) a f in
+    let few : t .variables ≤ maxVariables = few-variables (is .0) t (is .2) a f in
     ap (answerText s) (demand-2-solved s t is listingBudget listingOutput (omega arith) l a f)
     ∙ ap (λ (u : Table). firstLine (handed (Solved (N t))) ++ solvedText u (written a listingOutput)) (sym (table-is s t is))
-    ∙ ap (λ (x : List ℕ). firstLine (handed (Solved (N t))) ++ x) (listed t (is .1) a f listingOutput (omega arith))
+    ∙ ap (λ (x : List ℕ). firstLine (handed (Solved (N t))) ++ x) (listed (is .0) t (is .2) a f listingOutput (omega arith))

@@ -11,6 +11,8 @@ use libc::STDOUT_FILENO;
 
 // One byte more than the longest readable table has, so that a longer input is answered as a longer one.
 const MOST: usize = table::HEADER
+    + 1
+    + 2 * bounds::MAX_ROLE_ROWS
     + 2 * bounds::MAX_ATOMS
     + bounds::MAX_LINES * (bounds::MAX_LEFT + 2)
     + 1;

@@ -1,4 +1,4 @@
-// Reads many tables and prints what the public calls answer: for the reader a line with number, place and the five counts,
+// Reads many tables and prints what the public calls answer: for the reader a line with number, place and the counts,
 // for the line call a line with the length of the part and its bytes. Each group has a title.
 ghost use Prim.Native.Nat.{_≤_, _<_};
 ghost use Rattle.table.specs.Bytes.{enoughLength};
@@ -6,19 +6,29 @@ use bounds::MAX_ATOMS;
 use bounds::MAX_LEFT;
 use bounds::MAX_LINES;
 use bounds::MAX_ROLES;
+use bounds::MAX_ROLE_ROWS;
 use bounds::MAX_VARIABLES;
 use libc::STDOUT_FILENO;
 
-// Where the rows of the longest table end, and where it ends.
-const ROWS_END: usize = table::HEADER + 2 * MAX_ATOMS;
+// Where the lines of the longest table without role rows begin, and where it ends.
+const LINES_AT: usize = table::HEADER + 2 * MAX_ATOMS;
 
-const LONGEST: usize = ROWS_END + MAX_LINES * (MAX_LEFT + 2);
+const LONGEST: usize = LINES_AT + MAX_LINES * (MAX_LEFT + 2);
 
-// One byte more.
-const MOST: usize = LONGEST + 1;
+// The count of role rows and as many role rows as are allowed.
+const ORDER: usize = 1 + 2 * MAX_ROLE_ROWS;
 
-// 3 constants, 2 roles, 2 variables, 2 restrictions and 2 lines: byte 13 is a filler, byte 15 a left entry, byte 17 a right one.
-const PLAIN: [u8; 21] = [
+// One byte more than the longest table has.
+const MOST: usize = LONGEST + ORDER + 1;
+
+// Room for the two tables that follow.
+const ROOM: usize = 26;
+
+// 3 constants, 2 roles, 2 variables, 2 restrictions and 2 lines: byte 13 is a filler, byte 15 a left entry, byte 17 a right one. The table
+// ends after 21 bytes.
+const PLAIN_END: usize = 21;
+
+const PLAIN: [u8; ROOM] = [
     0x56,
     0x4F,
     0x43,
@@ -29,6 +39,41 @@ const PLAIN: [u8; 21] = [
     2,
     2,
     2,
+    1,
+    0x00,
+    0,
+    0x61,
+    2,
+    0x20,
+    0x41,
+    0x60,
+    1,
+    0x61,
+    0x22,
+    0,
+    0,
+    0,
+    0,
+    0,
+];
+
+// The same with two role rows: byte 11 is a narrower role, byte 14 a wider one.
+const ORDERED: [u8; ROOM] = [
+    0x56,
+    0x4F,
+    0x43,
+    2,
+    0,
+    3,
+    2,
+    2,
+    2,
+    2,
+    2,
+    0,
+    1,
+    1,
+    0,
     1,
     0x00,
     0,
@@ -60,6 +105,7 @@ fn show(table: &[u8]) {
     spaced(a.variables as u64);
     spaced(a.restrictions as u64);
     spaced(a.lines as u64);
+    spaced(a.inclusions as u64);
     say(b"\n");
 }
 
@@ -88,19 +134,26 @@ fn show_truncations(table: &[u8]) {
     show(table);
 }
 
-// The plain table with each of the 256 values at the byte `at`.
-fn show_codes(at: usize)
-    requires { ⌜ at < 21 ⌝ }
+// The first n bytes, read.
+fn show_begin(table: [u8; ROOM], n: usize)
+    requires { ⌜ n ≤ 26 ⌝ }
 {
-    let mut table = PLAIN;
+    show(&table[0..n]);
+}
+
+// The first n bytes of the table, with each of the 256 values at the byte `at`.
+fn show_codes(plain: [u8; ROOM], n: usize, at: usize)
+    requires { ⌜ (n ≤ 26) × (at < 26) ⌝ }
+{
+    let mut table = plain;
     let mut code: u8 = 0;
     while code < 255 {
         table[at] = code;
-        show(&table);
+        show_begin(table, n);
         code += 1;
     }
     table[at] = code;
-    show(&table);
+    show_begin(table, n);
 }
 
 fn with_header(table: [u8; MOST], c: u8, r: u8, v: u8, e: u8, m: u8) -> [u8; MOST] {
@@ -177,23 +230,54 @@ fn longest() -> [u8; MOST] {
     let t = with_header(
         base,
         0,
-        MAX_ROLES,
+        MAX_ROLES as u8,
         MAX_VARIABLES as u8,
         MAX_ATOMS as u8,
         MAX_LINES as u8,
     );
-    let t = filled(t, table::HEADER, ROWS_END, 1, 0);
-    filled(t, ROWS_END, LONGEST, MAX_LEFT + 2, MAX_LEFT as u8)
+    let t = filled(t, table::HEADER, LINES_AT, 1, 0);
+    filled(t, LINES_AT, LONGEST, MAX_LEFT + 2, MAX_LEFT as u8)
+}
+
+// The same of version 2, with as many role rows as are allowed.
+fn longest_ordered() -> [u8; MOST] {
+    let base = [0x40u8; MOST];
+    let t = with_header(
+        base,
+        0,
+        MAX_ROLES as u8,
+        MAX_VARIABLES as u8,
+        MAX_ATOMS as u8,
+        MAX_LINES as u8,
+    );
+    let t = filled(t, table::VERSION, table::VERSION + 1, 1, 2);
+    let t = filled(t, table::HEADER, LINES_AT + ORDER, 1, 0);
+    let t = filled(
+        t,
+        table::ROLE_ROWS,
+        table::ROLE_ROWS + 1,
+        1,
+        MAX_ROLE_ROWS as u8,
+    );
+    filled(
+        t,
+        LINES_AT + ORDER,
+        LONGEST + ORDER,
+        MAX_LEFT + 2,
+        MAX_LEFT as u8,
+    )
 }
 
 fn show_order() {
     say(b"nine bytes with a wrong mark\n");
     show(b"\x00\x00\x00\x00\x00\x00\x00\x00\x00");
     say(b"mark and version wrong\n");
-    show(b"VOK\x02\x00\x19\x11\x0D\x19\x41");
-    say(b"version low byte, high byte\n");
-    show(b"VOC\x02\x00\x19\x11\x0D\x19\x41");
+    show(b"VOK\x03\x00\x19\x11\x0D\x19\x41");
+    say(b"version 0, 3, 0x0101, 0x0102\n");
+    show(b"VOC\x00\x00\x19\x11\x0D\x19\x41");
+    show(b"VOC\x03\x00\x19\x11\x0D\x19\x41");
     show(b"VOC\x01\x01\x19\x11\x0D\x19\x41");
+    show(b"VOC\x02\x01\x19\x11\x0D\x19\x41");
     say(b"c 25 alone; with r 17; with v 13; with m 65; c 255 and e 1\n");
     show_header(25, 0, 0, 0, 0);
     show_header(25, 17, 0, 0, 0);
@@ -241,16 +325,43 @@ fn show_bounds() {
     let t = longest();
     show_first(t, LONGEST);
     show_first(t, LONGEST - 1);
+    show_first(t, LONGEST + 1);
+}
+
+fn show_order_of_roles() {
+    say(b"version 2: no q; m 65 before q; no q and m 65\n");
+    show(b"VOC\x02\x00\x00\x00\x00\x00\x00");
+    show(b"VOC\x02\x00\x00\x00\x00\x00\x41\x21");
+    show(b"VOC\x02\x00\x00\x00\x00\x00\x41");
+    say(b"q 0, q 32 and no row, q 33\n");
+    show(b"VOC\x02\x00\x00\x00\x00\x00\x00\x00");
+    show(b"VOC\x02\x00\x00\x01\x00\x00\x00\x20");
+    show(b"VOC\x02\x00\x00\x01\x00\x00\x00\x21");
+    say(b"r 0 and q 1; a wider role not declared; no wider role\n");
+    show(b"VOC\x02\x00\x00\x00\x00\x00\x00\x01\x00\x00");
+    show(b"VOC\x02\x00\x00\x01\x00\x00\x00\x01\x00\x01");
+    show(b"VOC\x02\x00\x00\x01\x00\x00\x00\x01\x00");
+    say(b"a byte after the role rows\n");
+    show(b"VOC\x02\x00\x00\x01\x00\x00\x00\x01\x00\x00\x00");
+    say(b"the longest table with role rows, a byte less, a byte more\n");
+    let t = longest_ordered();
+    show_first(t, LONGEST + ORDER);
+    show_first(t, LONGEST + ORDER - 1);
     show_first(t, MOST);
+    say(b"lines 0 and 1 of a table with role rows, and line 63 of the longest\n");
+    let ordered = ORDERED;
+    show_line(&ordered, 0);
+    show_line(&ordered, 1);
+    show_line_of_first(t, LONGEST + ORDER, 63);
 }
 
 fn show_lines() {
     let plain = PLAIN;
     say(b"lines 0, m - 1, m and the last number\n");
-    show_line(&plain, 0);
-    show_line(&plain, 1);
-    show_line(&plain, 2);
-    show_line(&plain, 4294967295);
+    show_line(&plain[..PLAIN_END], 0);
+    show_line(&plain[..PLAIN_END], 1);
+    show_line(&plain[..PLAIN_END], 2);
+    show_line(&plain[..PLAIN_END], 4294967295);
     say(b"line 0 of a table that ends early, of an empty one, and of one with a byte more\n");
     show_line(&plain[..20], 0);
     show_line(&plain[..0], 0);
@@ -259,20 +370,30 @@ fn show_lines() {
     let t = longest();
     show_line_of_first(t, LONGEST, 63);
     show_line_of_first(t, LONGEST, 64);
-    show_line_of_first(t, MOST, 63);
+    show_line_of_first(t, LONGEST + 1, 63);
 }
 
 fn main() {
     say(b"each truncation\n");
     let plain = PLAIN;
-    show_truncations(&plain);
+    show_truncations(&plain[..PLAIN_END]);
     say(b"each filler code\n");
-    show_codes(13);
+    show_codes(plain, PLAIN_END, 13);
     say(b"each left code\n");
-    show_codes(15);
+    show_codes(plain, PLAIN_END, 15);
     say(b"each right code\n");
-    show_codes(17);
+    show_codes(plain, PLAIN_END, 17);
     show_order();
     show_bounds();
     show_lines();
+    say(b"each truncation of a table with role rows\n");
+    let ordered = ORDERED;
+    show_truncations(&ordered);
+    say(b"each count of role rows\n");
+    show_codes(ordered, ROOM, 10);
+    say(b"each narrower role\n");
+    show_codes(ordered, ROOM, 11);
+    say(b"each wider role\n");
+    show_codes(ordered, ROOM, 14);
+    show_order_of_roles();
 }

@@ -15,9 +15,10 @@ use lib.Dec.{T, ltb, ltb→lt}
 use lib.ListN.{length, length-append, length-map}
 use borrow.Author.Tests.{lt-ltb, le-ltb}
 use Rattle.bounds.specs.Bounds.{maxAtoms, maxVariables, setBytes}
-use Rattle.el.specs.Test.{bit, everyOf}
+use Rattle.el.specs.Test.{bit}
 use Rattle.el.specs.TestLaws.{and-left, and-right, everyOf-at}
-use Rattle.el.specs.Table.{Filler, topF, constantF, variableF, Row, rowAt, atoms, fillerDeclared, rowDeclared, lineDeclared, declared}
+use Rattle.el.specs.Table.{Filler, topF, constantF, variableF, Row, rowAt, atoms, fillerDeclared, rowDeclared}
+use Rattle.el.specs.TableLaws.{rows-declared}
 use Rattle.answer.specs.declared.Handed.{Handed}
 use Rattle.table.specs.Reading.{Reading, refusal, readable, reading, theTable, tableOf, isReadable}
 use Rattle.table.specs.LayoutLaws.{layout}
@@ -76,17 +77,13 @@ module _ (s : List ℕ) (ok : T (isReadable (reading s))) where
       let l : length (decimal (row .role)) ≤ 2 = two-digits (row .role) (omega (arith, layout s ok .roles, layout s ok .few-roles)) in
       simp length-append (omega (arith, filler-length (row .filler) (and-right (ltb (row .role) (tableOf s .roles)) _ d)))
 
-  rows-declared : T (everyOf (rowDeclared (tableOf s)) (tableOf s .rows))
-  unfolding declared
-  rows-declared = and-left (everyOf (rowDeclared (tableOf s)) (tableOf s .rows)) (everyOf (lineDeclared (tableOf s)) (tableOf s .lines)) (layout s ok .all-declared)
-
   pub atom-length : (i : ℕ) → i < atoms (tableOf s) → length (atomText (tableOf s) i) ≤ atomRoom
   unfolding atomText atoms rowAt
   atom-length i h = go (decLt i (tableOf s .constants))
     where
       go : Dec (i < tableOf s .constants) → length (atomText (tableOf s) i) ≤ atomRoom
       go (yes l) = rw (lt-ltb i (tableOf s .constants) l, atomText) (omega (arith, two-digits i (omega (arith, few-constants))))
-      go (no n) = rw (le-ltb i (tableOf s .constants) (omega arith), atomText) (row-length _ (everyOf-at (rowDeclared (tableOf s)) (tableOf s .rows) (i - tableOf s .constants) _ rows-declared (omega arith)))
+      go (no n) = rw (le-ltb i (tableOf s .constants) (omega arith), atomText) (row-length _ (everyOf-at (rowDeclared (tableOf s)) (tableOf s .rows) (i - tableOf s .constants) _ (rows-declared (tableOf s) (layout s ok .all-declared)) (omega arith)))
 
   module _ (x : ℕ) where
     -- how many, and how long each

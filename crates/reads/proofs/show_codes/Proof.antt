@@ -8,10 +8,10 @@ use Rattle.reads.proofs.show_codes.Statement.{statement}
 use Rattle.reads.proofs.show_codes.Tie as tie
 
 abbrev Inv-loop : tie.InvT-loop
-Inv-loop at table₀ code₀ table code = (length table ≡ 21) × (code ≤ 255)
+Inv-loop n at table₀ code₀ table code = (length table ≡ 26) × (code ≤ 255)
 
 abbrev μ-loop : tie.MeasureT-loop
-μ-loop at table₀ code₀ table code = 255 - code
+μ-loop n at table₀ code₀ table code = 255 - code
 
 loop-again : tie.Need-loop-again Inv-loop μ-loop
 loop-again c = (simp length-set (search needs), omega arith)
@@ -24,12 +24,10 @@ show-codes-spec =
     μ-loop
     (λ c. search needs)
     (λ c. search needs)
-    (λ c. search needs)
     (λ c κs. search needs)
     (λ c. search needs)
     (λ c. search needs)
     loop-again
-    (λ c. search needs)
     (λ c. search needs)
     (λ c κs. search needs)
     (λ c. search needs))

@@ -11,6 +11,7 @@ use lib.ListN.{length}
 use Rattle.el.specs.Test.{everyOf}
 use Rattle.el.specs.TestLaws.{and-make, and-left, and-right}
 use Rattle.el.specs.Table.{Entry, variable, Row, Table, fillerDeclared, rowDeclared, entryDeclared, lineDeclared, declared}
+use Rattle.el.specs.TableLaws.{all-declared}
 use Rattle.owl.specs.Once.{isAmong, place}
 use Rattle.owl.specs.OnceLaws.{every-join, every-first, every-second, place-lt, once-all, once-every}
 use Rattle.owl.specs.Tree.{Name, Class, named, intersectionOf, someValuesFrom, Classes, last, more, Axiom, subClassOf, equivalentClasses}
@@ -201,12 +202,12 @@ unfolding rowsAll
 rows-among v As = once-all sameRow sameRow-refl (eachOf rowsIn v As) []
 
 pub table-declared : (d : Names) (As : List Statement) → WithinAll (length (d .constants)) (length (d .roles)) (length (d .opens)) As → T (declared (tableOf d As))
-unfolding declared tableOf rowsAll linesAll everyOf
+unfolding tableOf rowsAll linesAll everyOf
 table-declared d As h =
     let t : Table = tableOf d As in
     let v : ℕ = length (d .opens) in
     let room : v ≤ t .variables = omega arith in
     let all : v + freshAll As ≤ t .variables = omega arith in
     let among = rows-among v As in
-    and-make (everyOf (rowDeclared t) (t .rows)) (everyOf (lineDeclared t) (t .lines)) (once-every sameRow (rowDeclared t) (eachOf rowsIn v As) [] tt (rowsAll-declared t v room v As h all))
+    all-declared t tt (once-every sameRow (rowDeclared t) (eachOf rowsIn v As) [] tt (rowsAll-declared t v room v As h all))
     (every-join (lineDeclared t) (eachOf (linesIn (t .rows)) v As) (eachOf (equationsIn (t .rows)) v As) (all-lines-declared t v room v As h among) (all-equations-declared t v room v As h among all))

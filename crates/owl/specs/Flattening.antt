@@ -184,6 +184,7 @@ tableOf d As = record {
   constants = length (d .constants);
   roles = length (d .roles);
   variables = length (d .opens) + freshAll As;
+  roleRows = [];
   rows = rowsAll (length (d .opens)) As;
   lines = linesAll (rowsAll (length (d .opens)) As) (length (d .opens)) As;
 }

@@ -78,6 +78,7 @@ pub twoRows-table :
       constants = 2;
       roles = 2;
       variables = 3;
+      roleRows = [];
       rows = row 0 (variableF 1) ∷ row 1 (variableF 2) ∷ row 1 (constantF 0) ∷ [];
       lines =
           line (variable 0 ∷ []) (restriction 0)
@@ -133,6 +134,7 @@ roundTable =
       constants = 0;
       roles = 1;
       variables = 2;
+      roleRows = [];
       rows = row 0 (variableF 1) ∷ row 0 (variableF 0) ∷ [];
       lines =
           line (variable 0 ∷ []) (restriction 0)
@@ -197,6 +199,7 @@ pub odd-table :
       constants = 1;
       roles = 1;
       variables = 1;
+      roleRows = [];
       rows = row 0 (variableF 0) ∷ [];
       lines = line [] (constant 0) ∷ line [] (variable 0) ∷ [];
     }

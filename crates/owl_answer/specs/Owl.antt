@@ -35,16 +35,16 @@ owl n c p b = record { number = n; count = c; place = p; buffer = b }
 
 -- "a bound of 01": those of the counts, and "p at most 8"
 pub record InBounds (t : Table) : Type 0 where
-  pub counts : Within bounds (countsOf t)
+  pub counts : Within bounds (countsOf 1 t)
   pub left : T (everyOf (λ (l : Line). leb (length (l .left)) maxLeft) (t .lines))
 
 pub data TableAt (t : Table) (out : List ℕ) : Owl → Type 0 where
   -- "then 12 the result passes a bound of 01"
   over : (InBounds t → ⊥) → TableAt t out (owl 12 0 0 out)
   -- "then 17 the buffer is shorter than the table (place: length needed); the buffer stays"
-  short : InBounds t → length out < length (bytesOf t) → TableAt t out (owl 17 0 (length (bytesOf t)) out)
+  short : InBounds t → length out < length (bytesOf 1 t) → TableAt t out (owl 17 0 (length (bytesOf 1 t)) out)
   -- "The table goes to a lent buffer; its length is returned."
-  made : InBounds t → length (bytesOf t) ≤ length out → TableAt t out (owl 0 (length (bytesOf t)) 0 (bytesOf t ++ drop (length (bytesOf t)) out))
+  made : InBounds t → length (bytesOf 1 t) ≤ length out → TableAt t out (owl 0 (length (bytesOf 1 t)) 0 (bytesOf 1 t ++ drop (length (bytesOf 1 t)) out))
 
 pub data OwlAt (s out : List ℕ) : Owl → Type 0 where
   -- "10 syntax or 11 an axiom or constructor not listed (place: the first such token's byte)"
@@ -57,7 +57,7 @@ pub data OwlAt (s out : List ℕ) : Owl → Type 0 where
 pub record Made (s out : List ℕ) (a : Owl) (f : File) : Type 0 where
   pub says : Says s f
   pub known : T (allKnown f)
-  pub written : a .buffer ≡ bytesOf (flatTable f) ++ drop (a .count) out
+  pub written : a .buffer ≡ bytesOf 1 (flatTable f) ++ drop (a .count) out
   -- the buffer's first bytes, as many as were counted, are that table
   pub table : IsTable (take (a .count) (a .buffer)) (flatTable f)
   -- "that table has a solving assignment exactly if some substitution makes all the file's axioms hold by 01's order"

@@ -20,11 +20,12 @@ use Rattle.bounds.specs.Bounds.{bounds, maxLeft, setBytes}
 use Rattle.el.specs.Test.{everyOf}
 use Rattle.el.specs.TestLaws.{and-make, and-left, and-right, everyOf-both}
 use Rattle.el.specs.Table.{Line, Table, declared, lineDeclared, rowDeclared, roleOrder}
-use Rattle.el.specs.OrderLaws.{roleOrder-refl, roleOrder-trans}
+use Rattle.el.specs.RoleLaws.{roleOrder-refl, roleOrder-trans}
+use Rattle.el.specs.TableLaws.{role-rows-declared, rows-declared, lines-declared}
 use Rattle.el.specs.Assignment.{Assignment, Solves, induced}
 use Rattle.el.specs.Locality.{Solvable}
 use Rattle.el.specs.Meaning.{Substitution}
-use Rattle.table.specs.Bytes.{countsOf, bytesOf, Within, lineRight, Fits, IsTable}
+use Rattle.table.specs.Bytes.{countsOf, bytesOf, version-one, Within, lineRight, Fits, IsTable}
 use Rattle.answer.specs.declared.Answer.the-variants.{Solved, Nothing}
 use Rattle.output.specs.Written.{written}
 use Rattle.makrothel.specs.Numbers.{FirstSolving, NoneSolves, Said}
@@ -33,7 +34,7 @@ use Rattle.makrothel.specs.Demand2.{demand-2-solved, demand-2-solved-exactly, d
 use Rattle.owl.specs.Tree.{File}
 use Rattle.owl.specs.Naming.{allKnown}
 use Rattle.owl.specs.Meaning.{fileHolds, Joinable}
-use Rattle.owl.specs.Flattening.{flatTable}
+use Rattle.owl.specs.Flattening.{tableOf, flatTable}
 use Rattle.owl.specs.FlatteningLaws.{flattening-to, flat-declared, file-solvable}
 use Rattle.owl.specs.Written.{Says}
 use Rattle.owl.specs.Grammar.{checked}
@@ -76,31 +77,33 @@ decide true = yes tt
 decide false = no (λ u. u)
 
 -- the bounds of the counts, one by one
-dec-within : (t : Table) → Dec (Within bounds (countsOf t))
-dec-within t = go (decLe (countsOf t .r) (bounds .roles)) (decLe (countsOf t .v) (bounds .variables)) (decLe (countsOf t .c + countsOf t .e) (bounds .atoms)) (decLe (countsOf t .m) (bounds .lines))
+dec-within : (t : Table) → Dec (Within bounds (countsOf 1 t))
+dec-within t = go (decLe (countsOf 1 t .r) (bounds .roles)) (decLe (countsOf 1 t .v) (bounds .variables)) (decLe (countsOf 1 t .c + countsOf 1 t .e) (bounds .atoms)) (decLe (countsOf 1 t .m) (bounds .lines)) (decLe (countsOf 1 t .q) (bounds .roleRows))
   where
-    go : Dec (countsOf t .r ≤ bounds .roles) → Dec (countsOf t .v ≤ bounds .variables) → Dec (countsOf t .c + countsOf t .e ≤ bounds .atoms) → Dec (countsOf t .m ≤ bounds .lines) → Dec (Within bounds (countsOf t))
-    go (yes a) (yes b) (yes c) (yes d) = yes (record { few-roles = a; few-variables = b; few-atoms = c; few-lines = d })
-    go (no a) b c d = no (λ w. a (w .few-roles))
-    go (yes a) (no b) c d = no (λ w. b (w .few-variables))
-    go (yes a) (yes b) (no c) d = no (λ w. c (w .few-atoms))
-    go (yes a) (yes b) (yes c) (no d) = no (λ w. d (w .few-lines))
+    go : Dec (countsOf 1 t .r ≤ bounds .roles) → Dec (countsOf 1 t .v ≤ bounds .variables) → Dec (countsOf 1 t .c + countsOf 1 t .e ≤ bounds .atoms) → Dec (countsOf 1 t .m ≤ bounds .lines) → Dec (countsOf 1 t .q ≤ bounds .roleRows)
+        → Dec (Within bounds (countsOf 1 t))
+    go (yes a) (yes b) (yes c) (yes d) (yes e) = yes (record { few-roles = a; few-variables = b; few-atoms = c; few-lines = d; few-role-rows = e })
+    go (no a) b c d e = no (λ w. a (w .few-roles))
+    go (yes a) (no b) c d e = no (λ w. b (w .few-variables))
+    go (yes a) (yes b) (no c) d e = no (λ w. c (w .few-atoms))
+    go (yes a) (yes b) (yes c) (no d) e = no (λ w. d (w .few-lines))
+    go (yes a) (yes b) (yes c) (yes d) (no e) = no (λ w. e (w .few-role-rows))
 
 dec-bounds : (t : Table) → Dec (InBounds t)
 dec-bounds t = go (dec-within t) (decide (everyOf (λ (l : Line). leb (length (l .left)) maxLeft) (t .lines)))
   where
-    go : Dec (Within bounds (countsOf t)) → Dec (T (everyOf (λ (l : Line). leb (length (l .left)) maxLeft) (t .lines))) → Dec (InBounds t)
+    go : Dec (Within bounds (countsOf 1 t)) → Dec (T (everyOf (λ (l : Line). leb (length (l .left)) maxLeft) (t .lines))) → Dec (InBounds t)
     go (yes a) (yes b) = yes (record { counts = a; left = b })
     go (no a) b = no (λ w. a (w .counts))
     go (yes a) (no b) = no (λ w. b (w .left))
 
 table-some : (t : Table) (out : List ℕ) → (a : Owl) × TableAt t out a
-table-some t out = go (dec-bounds t) (decLt (length out) (length (bytesOf t)))
+table-some t out = go (dec-bounds t) (decLt (length out) (length (bytesOf 1 t)))
   where
-    go : Dec (InBounds t) → Dec (length out < length (bytesOf t)) → (a : Owl) × TableAt t out a
+    go : Dec (InBounds t) → Dec (length out < length (bytesOf 1 t)) → (a : Owl) × TableAt t out a
     go (no x) d = (owl 12 0 0 out, over x)
-    go (yes x) (yes h) = (owl 17 0 (length (bytesOf t)) out, short x h)
-    go (yes x) (no h) = (owl 0 (length (bytesOf t)) 0 (bytesOf t ++ drop (length (bytesOf t)) out), made x (omega arith))
+    go (yes x) (yes h) = (owl 17 0 (length (bytesOf 1 t)) out, short x h)
+    go (yes x) (no h) = (owl 0 (length (bytesOf 1 t)) 0 (bytesOf 1 t ++ drop (length (bytesOf 1 t)) out), made x (omega arith))
 
 pub owl-some : (s out : List ℕ) → (a : Owl) × OwlAt s out a
 owl-some s out = go (ℕ-discrete (checked s .number) 0) (ℕ-discrete (undeclared s) (length s))
@@ -116,13 +119,15 @@ owl-some s out = go (ℕ-discrete (checked s .number) 0) (ℕ-discrete (undeclar
 ----------------------------------------------------------------------------------------------------
 -- What it is worth
 
-pub in-fits : (t : Table) → T (declared t) → InBounds t → Fits t
-unfolding Fits countsOf declared lineRight
-in-fits t known x = record {
+pub in-fits : (t : Table) → t .roleRows ≡ [] → T (declared t) → InBounds t → Fits 1 t
+unfolding Fits countsOf lineRight
+in-fits t none known x = record {
+  version = version-one refl (ap length none);
   counts = x .counts;
-  rows-right = and-left (everyOf (rowDeclared t) (t .rows)) (everyOf (lineDeclared t) (t .lines)) known;
+  role-rows-right = role-rows-declared t known;
+  rows-right = rows-declared t known;
   lines-right = everyOf-both (λ (l : Line). leb (length (l .left)) maxLeft) (lineDeclared t) (λ (l : Line). leb (length (l .left)) maxLeft && lineDeclared t l) (t .lines)
-      (λ l u w. and-make (leb (length (l .left)) maxLeft) (lineDeclared t l) u w) (x .left) (and-right (everyOf (rowDeclared t) (t .rows)) (everyOf (lineDeclared t) (t .lines)) known);
+      (λ l u w. and-make (leb (length (l .left)) maxLeft) (lineDeclared t l) u w) (x .left) (lines-declared t known);
 }
 
 -- the file that a text says, its names declared, and its table
@@ -136,9 +141,13 @@ module _ (f : File) (known : T (allKnown f)) where
   is-declared : T (declared table)
   is-declared = flat-declared under (roleOrder-refl table) (roleOrder-trans table) f known
 
-  is-table : InBounds table → IsTable (bytesOf table) table
+  no-role-rows : table .roleRows ≡ []
+  unfolding flatTable tableOf
+  no-role-rows = refl
+
+  is-table : InBounds table → IsTable (bytesOf 1 table) table
   unfolding IsTable
-  is-table x = (refl, in-fits table is-declared x)
+  is-table x = (1, refl, in-fits table no-role-rows is-declared x)
 
   -- "that table has a solving assignment exactly if some substitution makes all the file's axioms hold by 01's order"
   solvable : Joinable under f ↔ Solvable under table
@@ -159,7 +168,7 @@ owl-table (unknown e h) z = absurd (let w : ⊥ = omega arith in w)
 owl-table (said f h e (over x)) z = absurd (let w : ⊥ = omega arith in w)
 owl-table (said f h e (short x k)) z = absurd (let w : ⊥ = omega arith in w)
 owl-table {s} {out} (said f h e (made x k)) z =
-    let known = undeclared-means s f h .0 e in let b = bytesOf (flatTable f) in (
+    let known = undeclared-means s f h .0 e in let b = bytesOf 1 (flatTable f) in (
       f,
       record {
         says = h;

@@ -1,12 +1,14 @@
 /* ask SEED COUNT [WALK]: writes a stream of COUNT questions, or some more, on
    standard output: the same for the same seed. There are tables that are
-   solved, that have no solution and that go over the budget; bounds and codes
-   at and beyond their limits; and tables damaged, cut short and made too long.
+   solved, that have no solution and that go over the budget, of both versions;
+   bounds and codes at and beyond their limits; role rows of many shapes; and
+   tables damaged, cut short and made too long.
    It asks the second solver for N, so that few walks are longer than WALK.
 
    ask stats SEED COUNT [WALK]: says instead how often each kind of question and
    each number is in that stream. */
 
+#include "mistakes.h"
 #include "second.h"
 #include "stream.h"
 #include "tables.h"
@@ -217,6 +219,11 @@ static void ask_any(const u8 *bytes, u32 length)
 
 /* ---- Groups of questions: tables as they are */
 
+static u32 either_version(void)
+{
+    return between(&chance, 1, 2);
+}
+
 /* A readable table as bytes. Answers its length. */
 static u32 make_bytes(u8 *bytes)
 {
@@ -244,15 +251,17 @@ static void group_table(void)
 
 /* Each budget about a table's N: 0, 1, N - 1, N, N + 1, one by chance, and the
    largest. `wanted` is the table's answer: SOLVED or NONE. */
-static void ask_budgets(u32 wanted)
+static void ask_budgets(u32 version, u32 wanted)
 {
     u8 bytes[DRAFT_BYTES], output[4 * 12];
     u32 length;
+    struct draft draft;
     struct answer answer;
     do {
-        length = make_bytes(bytes);
+        make_table_of(&chance, walk, version, &draft);
+        length = write_draft(&draft, bytes);
         answer = second_solve(bytes, length, walk, output, sizeof output);
-    } while (answer.number != wanted);
+    } while (answer.number != wanted || answer.count < 2);
     u32 n = answer.count;
     u32 budgets[] = { 0, 1, n - 1, n, n + 1, below_bound(&chance, 2 * n), largest };
     u32 room = 4 * second_read(bytes, length).v + below_bound(&chance, 4);
@@ -263,7 +272,7 @@ static void ask_budgets(u32 wanted)
 
 static void group_budgets(void)
 {
-    ask_budgets(percent(&chance, 60) ? SOLVED : NONE);
+    ask_budgets(either_version(), percent(&chance, 60) ? SOLVED : NONE);
 }
 
 /* Each output length up to what a table needs, and some beyond it. */
@@ -280,12 +289,13 @@ static void group_outputs(void)
 
 /* For each number of variables, an output that is just long enough, one that is a
    byte too short, and some that are far too long. */
-static void group_output_bounds(void)
+static void ask_output_bounds(u32 version)
 {
     u8 bytes[DRAFT_BYTES];
     struct draft draft;
     for (u32 v = 1; v <= 12; v++) {
         draft_start(&draft, below_bound(&chance, 2), 0, v);
+        draft.version = version;
         u32 length = write_draft(&draft, bytes);
         u32 rooms[] = { 4 * v, 4 * v - 1, MOST_OUTPUT - 1 + v % 3, 65535 };
         for (u32 i = 0; i < (v <= 3 ? 4 : 2); i++) {
@@ -296,12 +306,13 @@ static void group_output_bounds(void)
 
 /* Each line of a table, the one after the last, and the first of a table that is
    refused. */
-static void group_lines(void)
+static void ask_lines(u32 version)
 {
     u8 bytes[DRAFT_BYTES + 1];
     struct draft draft;
-    make_full_table(&chance, walk, &draft);
+    make_full_table(&chance, walk, version, &draft);
     u32 length = write_draft(&draft, bytes);
+    ask_read(bytes, length);
     for (u32 i = 0; i <= draft.m; i++) {
         ask_line_number(bytes, length, i);
     }
@@ -408,13 +419,32 @@ static void ask_cut(const u8 *bytes, u32 length)
     ask_solve(bytes, length);
 }
 
+/* The same of the role rows, and of their count. */
+static void ask_role_places(const struct draft *draft, u8 *bytes, u32 length)
+{
+    u32 row = 11 + 2 * below_bound(&chance, draft->q);
+    u32 cuts[] = { 10, 11, row, row + 1 };
+    for (u32 i = 0; i < sizeof cuts / sizeof cuts[0]; i++) {
+        ask_cut(bytes, cuts[i]);
+    }
+    for (u32 i = 0; i < 2; i++) {
+        ask_changed(bytes, length, row + i, draft->r);
+        ask_changed(bytes, row + i + 1, row + i, draft->r);
+        ask_changed(bytes, length, row + i, between(&chance, draft->r, 255));
+    }
+    ask_changed(bytes, length, 10, 33);
+    ask_changed(bytes, 11, 10, 33);
+    ask_changed(bytes, length, 10, between(&chance, 34, 255));
+    ask_changed(bytes, length, 6, 0);
+}
+
 /* Each kind of refusal at each part at which it can stand. The table has a row,
-   and its last line a left entry. */
+   in version 2 a role row, and its last line a left entry. */
 static void ask_places(const struct draft *draft)
 {
     u8 bytes[DRAFT_BYTES + 1];
     u32 length = write_draft(draft, bytes);
-    u32 row = 10 + 2 * below_bound(&chance, draft->e);
+    u32 row = rows_start(draft) + 2 * below_bound(&chance, draft->e);
     u32 line = length - draft->line[draft->m - 1].p - 2;
     u32 cuts[] = { below_bound(&chance, 10), row, row + 1, line, line + 1, length - 1 };
     u32 codes[] = { row, row + 1, line + 1, length - 1 };
@@ -425,7 +455,7 @@ static void ask_places(const struct draft *draft)
         ask_changed(bytes, length, codes[i], between(&chance, 0x80, 0xFF));
     }
     ask_changed(bytes, length, below_bound(&chance, 3), 0x20);
-    ask_changed(bytes, length, 3, between(&chance, 2, 255));
+    ask_changed(bytes, length, 3, between(&chance, 3, 255));
     ask_changed(bytes, length, 6, between(&chance, 17, 255));
     ask_changed(bytes, length, 7, between(&chance, 13, 255));
     ask_changed(bytes, length, 8, between(&chance, 25, 255));
@@ -434,23 +464,39 @@ static void ask_places(const struct draft *draft)
     ask_changed(bytes, length, line, between(&chance, 10, 255));
     bytes[length] = (u8)draw(&chance);
     ask_cut(bytes, length + 1);
+    if (draft->version == 2) {
+        ask_role_places(draft, bytes, length);
+    }
+}
+
+static void ask_near_places(u32 version)
+{
+    struct draft draft;
+    make_full_table(&chance, walk, version, &draft);
+    ask_places(&draft);
 }
 
 static void group_places(void)
 {
-    struct draft draft;
-    make_full_table(&chance, walk, &draft);
-    ask_places(&draft);
+    ask_near_places(either_version());
 }
 
 /* The same of a table with the most rows and lines, and the longest lines. */
-static void group_far_places(void)
+static void ask_far_places(u32 version)
 {
     struct draft draft;
     draft_start(&draft, 0, 16, 12);
+    for (u32 i = 0; version == 2 && i < 32; i++) {
+        add_role_row(&draft, below_bound(&chance, 16), below_bound(&chance, 16));
+    }
     add_random_rows(&chance, &draft, 24);
     add_easy_lines(&chance, &draft, 64, 8, 8);
     ask_places(&draft);
+}
+
+static void group_far_places(void)
+{
+    ask_far_places(either_version());
 }
 
 /* Bytes after the last line: one, some, or as many as a question can have. */
@@ -485,16 +531,30 @@ static void group_mark(void)
     }
 }
 
+/* Versions that are none, and the other one: bytes 3 and 4. */
+static void group_versions(void)
+{
+    static const u32 versions[] = { 0, 1, 2, 3, 0x0100, 0x0101, 0x0102, 0x0200, 0x0201, 0x0202 };
+    u8 bytes[DRAFT_BYTES];
+    u32 length = make_bytes(bytes);
+    for (u32 i = 0; i < sizeof versions / sizeof versions[0]; i++) {
+        bytes[3] = (u8)versions[i];
+        bytes[4] = (u8)(versions[i] >> 8);
+        ask_cut(bytes, length);
+        ask_line(bytes, length);
+    }
+}
+
 /* Bytes by chance: all of them, or those after a good mark and version, or
    small counts and then bytes that are mostly codes. */
 static void group_garbage(void)
 {
-    u8 bytes[100] = { 0x56, 0x4F, 0x43, 1, 0 };
+    u8 bytes[100] = { 0x56, 0x4F, 0x43, (u8)either_version(), 0 };
     u32 lot = below_bound(&chance, 4);
     for (u32 i = lot == 0 ? 0 : 5; i < sizeof bytes; i++) {
         if (lot < 2) {
             bytes[i] = (u8)draw(&chance);
-        } else if (i < 10) {
+        } else if (i < 9u + bytes[3]) {
             bytes[i] = (u8)below_bound(&chance, 4);
         } else {
             bytes[i] = (u8)(below_bound(&chance, 3) + (percent(&chance, 50) ? 0 : 32 * below_bound(&chance, 4)));
@@ -505,12 +565,15 @@ static void group_garbage(void)
 
 /* ---- Groups of questions: bounds and codes */
 
-/* A table with these counts, at a bound or over it. */
+/* A table with these counts, at a bound or over it, of either version. */
 static void ask_counts(u32 c, u32 r, u32 v, u32 e, u32 m, u32 p)
 {
     u8 bytes[DRAFT_BYTES];
     struct draft draft;
     draft_start(&draft, c, r, v);
+    if (percent(&chance, 50)) {
+        add_random_role_rows(&chance, &draft);
+    }
     add_random_rows(&chance, &draft, e);
     add_easy_lines(&chance, &draft, m, p, p);
     u32 length = write_draft(&draft, bytes);
@@ -568,15 +631,26 @@ static void group_codes(void)
 {
     u8 bytes[DRAFT_BYTES];
     struct draft draft;
-    make_full_table(&chance, walk, &draft);
+    make_full_table(&chance, walk, either_version(), &draft);
     u32 length = write_draft(&draft, bytes);
-    ask_every_value(bytes, length, 10 + 2 * below_bound(&chance, draft.e) + 1);
-    make_full_table(&chance, walk, &draft);
+    ask_every_value(bytes, length, rows_start(&draft) + 2 * below_bound(&chance, draft.e) + 1);
+    make_full_table(&chance, walk, either_version(), &draft);
     length = write_draft(&draft, bytes);
     ask_every_value(bytes, length, length - 2);
-    make_full_table(&chance, walk, &draft);
+    make_full_table(&chance, walk, either_version(), &draft);
     length = write_draft(&draft, bytes);
     ask_every_value(bytes, length, length - 1);
+}
+
+/* Every value of the count of role rows, and of a role in them. */
+static void group_role_codes(void)
+{
+    u8 bytes[DRAFT_BYTES];
+    struct draft draft;
+    make_full_table(&chance, walk, 2, &draft);
+    u32 length = write_draft(&draft, bytes);
+    ask_every_value(bytes, length, 10);
+    ask_every_value(bytes, length, 11 + below_bound(&chance, 2 * draft.q));
 }
 
 /* Every value of any byte. */
@@ -585,6 +659,93 @@ static void group_values(void)
     u8 bytes[DRAFT_BYTES];
     u32 length = make_bytes(bytes);
     ask_every_value(bytes, length, below_bound(&chance, length));
+}
+
+/* ---- Groups of questions: roles */
+
+/* Finishes a table with rows and lines that hold under any sets, and asks about
+   it: where it is readable, it is solved at the second node. */
+static u32 ask_easy(struct draft *draft, u32 m, u8 *bytes)
+{
+    add_random_rows(&chance, draft, draft->r > 0 ? 2 : 0);
+    add_easy_lines(&chance, draft, m, 1, 2);
+    u32 length = write_draft(draft, bytes);
+    ask_read(bytes, length);
+    ask_line(bytes, length);
+    ask_solve_with(bytes, length, 2, 4 * draft->v);
+    return length;
+}
+
+/* Role rows in a chain of four steps, with one of the others that closes it, stands
+   twice, or leads from a role to itself. */
+static void group_role_shapes(void)
+{
+    static const struct draft_role_row more[] = { { 4, 0 }, { 0, 1 }, { 2, 2 } };
+    for (u32 i = 0; i < sizeof more / sizeof more[0]; i++) {
+        u8 bytes[DRAFT_BYTES];
+        struct draft draft;
+        draft_start(&draft, 1, 5, 1);
+        for (u32 s = 0; s < 4; s++) {
+            add_role_row(&draft, s, s + 1);
+        }
+        add_role_row(&draft, more[i].narrower, more[i].wider);
+        ask_easy(&draft, 2, bytes);
+    }
+}
+
+/* A table with so many role rows, whole and cut after their count. */
+static void ask_role_count(u32 r, u32 q, u32 m)
+{
+    u8 bytes[DRAFT_BYTES];
+    struct draft draft;
+    draft_start(&draft, 1, r, 1);
+    draft.version = 2;
+    for (u32 i = 0; i < q; i++) {
+        add_role_row(&draft, below_bound(&chance, r), below_bound(&chance, r));
+    }
+    u32 length = ask_easy(&draft, m, bytes);
+    ask_cut(bytes, 11);
+    ask_cut(bytes, 10);
+    ask_solve(bytes, length);
+}
+
+/* Each bound of role rows, and one over it; no roles for them; and the counts
+   before theirs broken too. */
+static void group_role_counts(void)
+{
+    ask_role_count(3, 0, 2);
+    ask_role_count(16, 1, 2);
+    ask_role_count(16, 31, 2);
+    ask_role_count(16, 32, 2);
+    ask_role_count(16, 33, 2);
+    ask_role_count(16, DRAFT_ROLE_ROWS, 2);
+    ask_role_count(0, 0, 2);
+    ask_role_count(0, 1, 2);
+    ask_role_count(0, 33, 2);
+    ask_role_count(17, 2, 2);
+    ask_role_count(17, 33, 2);
+    ask_role_count(2, 2, 65);
+    ask_role_count(2, 33, 65);
+}
+
+/* A table that tells a mistake about roles, and is asked so that it does. */
+static void ask_mistake(enum mistake mistake)
+{
+    u8 bytes[DRAFT_BYTES];
+    struct draft draft;
+    u32 length;
+    do {
+        make_table_of(&chance, walk, 2, &draft);
+        length = write_draft(&draft, bytes);
+    } while (!tells(mistake, bytes, length, walk, 4 * draft.v));
+    ask_solve_with(bytes, length, walk, 4 * draft.v);
+}
+
+static void group_mistakes(void)
+{
+    for (u32 mistake = 0; mistake < MISTAKES; mistake++) {
+        ask_mistake(mistake);
+    }
 }
 
 /* ---- The stream */
@@ -598,6 +759,7 @@ static const struct group groups[] = {
     { 5600, group_table },    { 700, group_garbage }, { 550, group_after },   { 800, group_budgets },
     { 200, group_damage },    { 200, group_both },    { 200, group_outputs }, { 100, group_truncation },
     { 50, group_mark },       { 50, group_bounds },   { 30, group_values },   { 20, group_places },
+    { 50, group_versions },   { 50, group_mistakes }, { 20, group_role_counts }, { 10, group_role_shapes },
     { 5, group_far_places },  { 2, group_long_walk },
 };
 
@@ -615,25 +777,32 @@ static void group_by_chance(void)
     groups[i].ask();
 }
 
-/* Each group of limits, circles and damage once, and then groups by chance. What
+/* Each group of limits, circles, roles and damage, and then groups by chance. What
    must not be missing (kinds.c, trees.c) is in the first ones, whatever the
    count. */
 static void ask_all(u64 count)
 {
-    group_places();
-    group_far_places();
-    ask_budgets(SOLVED);
-    ask_budgets(NONE);
-    group_output_bounds();
+    for (u32 version = 1; version <= 2; version++) {
+        ask_near_places(version);
+        ask_far_places(version);
+        ask_budgets(version, SOLVED);
+        ask_budgets(version, NONE);
+        ask_output_bounds(version);
+        ask_lines(version);
+    }
     group_outputs();
-    group_lines();
     group_circles();
     group_bounds();
     group_mark();
+    group_versions();
+    group_role_counts();
+    group_role_shapes();
+    group_mistakes();
     group_damage();
     group_truncation();
     group_after();
     group_codes();
+    group_role_codes();
     group_long_walk();
     while (asked < count) {
         group_by_chance();

@@ -34,9 +34,25 @@ int percent(struct chance *chance, u32 percentage)
 void draft_start(struct draft *draft, u32 c, u32 r, u32 v)
 {
     memset(draft, 0, sizeof *draft);
+    draft->version = 1;
     draft->c = c;
     draft->r = r;
     draft->v = v;
+}
+
+u32 rows_start(const struct draft *draft)
+{
+    return draft->version == 1 ? 10 : 11 + 2 * draft->q;
+}
+
+void add_role_row(struct draft *draft, u32 narrower, u32 wider)
+{
+    draft->version = 2;
+    if (draft->q < DRAFT_ROLE_ROWS) {
+        draft->role_row[draft->q].narrower = (u8)narrower;
+        draft->role_row[draft->q].wider = (u8)wider;
+        draft->q++;
+    }
 }
 
 void add_row(struct draft *draft, u32 role, u32 filler)
@@ -89,6 +105,55 @@ u32 random_entry(struct chance *chance, const struct draft *draft)
     }
 }
 
+/* Each role's row to the next one, or to the one before, and for a circle one
+   from the last to the first. */
+static void add_role_chain(struct draft *draft, u32 up, u32 circle)
+{
+    for (u32 i = 0; i + 1 < draft->r + circle; i++) {
+        u32 next = (i + 1) % draft->r;
+        add_role_row(draft, up ? i : next, up ? next : i);
+    }
+}
+
+static void add_any_role_rows(struct chance *chance, struct draft *draft, u32 rows)
+{
+    for (u32 i = 0; i < rows; i++) {
+        add_role_row(draft, below_bound(chance, draft->r), below_bound(chance, draft->r));
+    }
+}
+
+static void shuffle_role_rows(struct chance *chance, struct draft *draft)
+{
+    for (u32 i = draft->q; i-- > 1;) {
+        u32 other = below_bound(chance, i + 1);
+        struct draft_role_row kept = draft->role_row[i];
+        draft->role_row[i] = draft->role_row[other];
+        draft->role_row[other] = kept;
+    }
+}
+
+void add_random_role_rows(struct chance *chance, struct draft *draft)
+{
+    u32 lot = below_bound(chance, 100);
+    draft->version = 2;
+    if (draft->r == 0 || lot < 10) {
+        return;
+    }
+    if (lot < 70) {
+        add_role_chain(draft, (u32)percent(chance, 50), lot < 20);
+    }
+    if (lot >= 60) {
+        add_any_role_rows(chance, draft, lot < 95 ? between(chance, 1, 5) : 32 - draft->q);
+    }
+    while (draft->q > 0 && draft->q < 32 && percent(chance, 20)) {
+        struct draft_role_row again = draft->role_row[below_bound(chance, draft->q)];
+        add_role_row(draft, again.narrower, percent(chance, 50) ? again.narrower : again.wider);
+    }
+    if (percent(chance, 60)) {
+        shuffle_role_rows(chance, draft);
+    }
+}
+
 void add_random_rows(struct chance *chance, struct draft *draft, u32 rows)
 {
     for (u32 k = 0; k < rows; k++) {
@@ -131,10 +196,14 @@ void add_easy_lines(struct chance *chance, struct draft *draft, u32 lines, u32 l
 
 u32 write_draft(const struct draft *draft, u8 *bytes)
 {
-    const u8 header[10] = { 0x56, 0x4F, 0x43, 1, 0, (u8)draft->c, (u8)draft->r, (u8)draft->v,
-                            (u8)draft->e, (u8)draft->m };
-    u32 length = sizeof header;
-    memcpy(bytes, header, sizeof header);
+    const u8 header[11] = { 0x56, 0x4F, 0x43, (u8)draft->version, 0, (u8)draft->c, (u8)draft->r,
+                            (u8)draft->v, (u8)draft->e, (u8)draft->m, (u8)draft->q };
+    u32 length = draft->version == 1 ? 10 : 11;
+    memcpy(bytes, header, length);
+    for (u32 i = 0; i < draft->q; i++) {
+        bytes[length++] = draft->role_row[i].narrower;
+        bytes[length++] = draft->role_row[i].wider;
+    }
     for (u32 k = 0; k < draft->e; k++) {
         bytes[length++] = draft->row[k].role;
         bytes[length++] = draft->row[k].filler;

@@ -7,10 +7,11 @@
 #include "base.h"
 
 enum {
+    DRAFT_ROLE_ROWS = 40,
     DRAFT_ROWS = 32,
     DRAFT_LEFT = 12,
     DRAFT_LINES = 72,
-    DRAFT_BYTES = 10 + 2 * DRAFT_ROWS + (2 + DRAFT_LEFT) * DRAFT_LINES
+    DRAFT_BYTES = 11 + 2 * DRAFT_ROLE_ROWS + 2 * DRAFT_ROWS + (2 + DRAFT_LEFT) * DRAFT_LINES
 };
 
 /* Codes. */
@@ -19,6 +20,10 @@ enum {
     CODE_CONSTANT = 0x20,
     CODE_RESTRICTION = 0x40,
     CODE_VARIABLE = 0x60
+};
+
+struct draft_role_row {
+    u8 narrower, wider;
 };
 
 struct draft_row {
@@ -32,7 +37,9 @@ struct draft_line {
 };
 
 struct draft {
-    u32 c, r, v, e, m;
+    u32 version;
+    u32 c, r, v, e, m, q;
+    struct draft_role_row role_row[DRAFT_ROLE_ROWS]; /* of version 2 */
     struct draft_row row[DRAFT_ROWS];
     struct draft_line line[DRAFT_LINES];
 };
@@ -50,8 +57,14 @@ int percent(struct chance *chance, u32 percentage);           /* 1 that often */
 
 /* ---- Drafts */
 
-/* The counts, and no rows or lines: e and m are 0. */
+/* Version 1, the counts, and no rows or lines: e, m and q are 0. */
 void draft_start(struct draft *draft, u32 c, u32 r, u32 v);
+
+/* The bytes before the first restriction row. */
+u32 rows_start(const struct draft *draft);
+
+/* Adds a role row, with which the draft has version 2. */
+void add_role_row(struct draft *draft, u32 narrower, u32 wider);
 
 void add_row(struct draft *draft, u32 role, u32 filler);
 void add_line(struct draft *draft, u32 p, const u8 *left, u32 right);
@@ -61,6 +74,11 @@ void add_line(struct draft *draft, u32 p, const u8 *left, u32 right);
 u32 random_filler(struct chance *chance, const struct draft *draft);
 u32 random_entry(struct chance *chance, const struct draft *draft);
 int has_entries(const struct draft *draft);
+
+/* Makes the draft one of version 2, with role rows of a shape by chance: none, a
+   chain or a circle over all roles, any rows, or as many as there may be. Some
+   stand twice, and some lead from a role to itself. */
+void add_random_role_rows(struct chance *chance, struct draft *draft);
 
 void add_random_rows(struct chance *chance, struct draft *draft, u32 rows);
 void add_random_line(struct chance *chance, struct draft *draft, u32 most_left);

@@ -1,15 +1,18 @@
-/* grow SEED COUNT: writes a stream of COUNT pairs of solve questions. Of three
+/* grow SEED COUNT: writes a stream of COUNT pairs of solve questions. Of four
    pairs, one asks about a table and a table grown from it with new lines, one
-   about a table and a table grown from it without new lines, and one about the
-   same table twice, the second time with a larger budget and a longer output.
+   about a table and a table grown from it without new lines, one about the same
+   table twice, the second time with a larger budget and a longer output, and one
+   about a table of version 2 and the same with one more role row, which is no
+   growth. The others are of both versions.
 
    grow check SEED COUNT: reads the lines of text that answer this stream, and
    holds them to what growth and larger budgets may change:
      a table without a solution: no growth of it is solved;
      a solved table: no growth of it without new lines has none;
      a table answered with 0 or 8: again with the same number, count and sets.
-   Says how many pairs were decided. Ends with status 1 if one breaks this, or
-   if too few were decided. */
+   By one more role row a table without a solution may be solved, and some must.
+   Says how many pairs were decided. Ends with status 1 if one breaks this, if a
+   grown table is none by its bytes, or if too few were decided. */
 
 #include "draft.h"
 #include "second.h"
@@ -19,7 +22,8 @@ enum {
     WITH_LINES = 0,
     SAME_LINES = 1,
     AGAIN = 2,
-    KINDS = 3,
+    ONE_ROLE_ROW = 3,
+    KINDS = 4,
     ENOUGH_BUDGET = 40000,
     LEAST_PERCENT = 5,
     LONGEST_TEXT = 2 * MOST_OUTPUT + 40
@@ -32,12 +36,16 @@ struct pair {
 
 /* ---- Pairs */
 
-static void make_small(struct chance *chance, struct draft *draft)
+static void make_small(struct chance *chance, struct draft *draft, u32 version)
 {
     u32 all = between(chance, 1, 4);
     u32 c = below_bound(chance, all / 2 + 1);
     u32 v = percent(chance, 10) ? below_bound(chance, 4) : between(chance, 1, 2);
     draft_start(draft, c, between(chance, 1, 2), v);
+    if (version == 2) {
+        draft->r += below_bound(chance, 3);
+        add_random_role_rows(chance, draft);
+    }
     add_random_rows(chance, draft, all - c);
     u32 lines = between(chance, 1, 4);
     for (u32 i = 0; i < lines; i++) {
@@ -46,7 +54,7 @@ static void make_small(struct chance *chance, struct draft *draft)
 }
 
 /* A table grown from the draft: higher counts, and new rows and, if asked for,
-   new lines after the old ones. */
+   new lines after the old ones. The role rows stay as they are. */
 static void grow(struct chance *chance, struct draft *draft, int with_lines)
 {
     u32 atoms = below_bound(chance, 3);
@@ -59,6 +67,35 @@ static void grow(struct chance *chance, struct draft *draft, int with_lines)
     for (u32 i = 0; i < lines; i++) {
         add_random_line(chance, draft, 3);
     }
+}
+
+/* Adds two rows of roles between which there are no role rows, and the line that
+   puts the first below the second: so there is no solution, but where a role row
+   leads from the one role to the other. */
+static void part(struct chance *chance, struct draft *draft)
+{
+    u32 filler = random_filler(chance, draft);
+    u8 left = (u8)(CODE_RESTRICTION + draft->e);
+    draft->r += 2;
+    add_row(draft, draft->r - 2, filler);
+    add_row(draft, draft->r - 1, percent(chance, 50) ? filler : CODE_TOP);
+    add_line(draft, 1, &left, CODE_RESTRICTION + draft->e - 1);
+}
+
+/* A table, and the same with one more role row. */
+static void make_one_role_row(struct chance *chance, struct draft *draft, struct draft *more)
+{
+    make_small(chance, draft, 2);
+    draft->q -= draft->q == 32;
+    int parted = percent(chance, 50);
+    if (parted) {
+        part(chance, draft);
+    }
+    *more = *draft;
+    u32 roles = parted ? 2 : draft->r;
+    u32 narrower = below_bound(chance, roles);
+    u32 wider = parted ? 1 - narrower : below_bound(chance, roles);
+    add_role_row(more, draft->r - roles + narrower, draft->r - roles + wider);
 }
 
 static void load(struct question *question, const struct draft *draft, u32 budget, u32 more_room)
@@ -82,9 +119,15 @@ static u32 close_budget(struct chance *chance, const struct draft *draft)
 
 static void make_pair(struct chance *chance, struct pair *pair, u64 index)
 {
-    struct draft draft;
+    struct draft draft, more;
     pair->kind = (u32)(index % KINDS);
-    make_small(chance, &draft);
+    if (pair->kind == ONE_ROLE_ROW) {
+        make_one_role_row(chance, &draft, &more);
+        load(&pair->first, &draft, ENOUGH_BUDGET, 0);
+        load(&pair->second, &more, ENOUGH_BUDGET, 0);
+        return;
+    }
+    make_small(chance, &draft, between(chance, 1, 2));
     if (pair->kind == AGAIN) {
         grow(chance, &draft, 1);
         u32 budget = close_budget(chance, &draft);
@@ -108,6 +151,37 @@ static void write_pairs(u64 seed, u64 count)
         put_question(&pair.first);
         put_question(&pair.second);
     }
+}
+
+/* ---- Growth, by the bytes of two readable tables */
+
+/* Where the rows start, and where the lines do. */
+static u32 start_of_rows(const u8 *table)
+{
+    return table[3] == 1 ? 10 : 11 + 2u * table[10];
+}
+
+static u32 start_of_lines(const u8 *table)
+{
+    return start_of_rows(table) + 2u * table[8];
+}
+
+/* The version and the role rows are the same, no count is less, and the rows and
+   lines of the one stand first among the other's. */
+static int grows(const struct question *one, const struct question *other)
+{
+    const u8 *small = one->table, *large = other->table;
+    u32 rows = start_of_rows(small);
+    u32 lines = one->length - start_of_lines(small);
+    for (u32 i = 5; i < 10; i++) {
+        if (small[i] > large[i]) {
+            return 0;
+        }
+    }
+    return memcmp(small, large, 5) == 0 && memcmp(small + 10, large + 10, rows - 10) == 0
+        && memcmp(small + rows, large + rows, 2u * small[8]) == 0
+        && other->length - start_of_lines(large) >= lines
+        && memcmp(small + start_of_lines(small), large + start_of_lines(large), lines) == 0;
 }
 
 /* ---- Answers */
@@ -176,29 +250,35 @@ static int same_answer(const struct told *first, const struct told *second)
     return 1;
 }
 
-/* Whether the answers of a pair are as they must be. */
-static int pair_holds(u32 kind, const struct told *first, const struct told *second)
+/* Whether the answers of a pair are as they must be. A solved table stays so by
+   one more role row, as what held before holds. */
+static int pair_holds(const struct pair *pair, const struct told *first, const struct told *second)
 {
-    if (kind == AGAIN) {
+    if (pair->kind == AGAIN) {
         return !decided(first) || same_answer(first, second);
     }
-    if (first->number == NONE) {
-        return second->number != SOLVED;
+    if (pair->kind != ONE_ROLE_ROW && !grows(&pair->first, &pair->second)) {
+        return 0;
     }
-    return !(first->number == SOLVED && kind == SAME_LINES && second->number == NONE);
+    if (first->number == NONE) {
+        return pair->kind == ONE_ROLE_ROW || second->number != SOLVED;
+    }
+    return !(first->number == SOLVED && pair->kind != WITH_LINES && second->number == NONE);
 }
 
 /* ---- The check */
 
-/* How many pairs of each kind had both answers decided, by the first answer. */
+/* How many pairs of each kind had both answers decided, by the first answer, and
+   how many of them came to be solved by one more role row. */
 struct tally {
     u64 pairs[KINDS], none[KINDS], solved[KINDS];
+    u64 by_role_row;
 };
 
 static void put_tally(const struct tally *tally)
 {
     static const char *const names[KINDS] = { "grown with new lines", "grown without new lines",
-                                              "asked again" };
+                                              "asked again", "one more role row" };
     for (u32 kind = 0; kind < KINDS; kind++) {
         put_text(names[kind]);
         put_text(": ");
@@ -209,6 +289,9 @@ static void put_tally(const struct tally *tally)
         put_number(tally->solved[kind]);
         put_text(" from solved\n");
     }
+    put_text("solved by one more role row: ");
+    put_number(tally->by_role_row);
+    put_text("\n");
 }
 
 /* Whether each kind has enough pairs that were decided; with new lines a
@@ -221,7 +304,7 @@ static int enough(const struct tally *tally)
             return 0;
         }
     }
-    return 1;
+    return tally->by_role_row > 0;
 }
 
 static void put_broken(const struct pair *pair)
@@ -238,20 +321,21 @@ static int check_pairs(u64 seed, u64 count)
     static struct pair pair;
     static struct told first, second;
     struct chance chance = { seed };
-    struct tally tally = { { 0 }, { 0 }, { 0 } };
+    struct tally tally = { { 0 }, { 0 }, { 0 }, 0 };
     for (u64 i = 0; i < count; i++) {
         make_pair(&chance, &pair, i);
         if (!get_told(&first) || !get_told(&second)) {
             put_text("grow: an answer is missing\n");
             return 0;
         }
-        if (!pair_holds(pair.kind, &first, &second)) {
+        if (!pair_holds(&pair, &first, &second)) {
             put_broken(&pair);
             return 0;
         }
         tally.pairs[pair.kind]++;
         tally.none[pair.kind] += first.number == NONE && decided(&second);
         tally.solved[pair.kind] += first.number == SOLVED && decided(&second);
+        tally.by_role_row += pair.kind == ONE_ROLE_ROW && first.number == NONE && second.number == SOLVED;
     }
     if (get_byte() >= 0) {
         put_text("grow: there are more answers than questions\n");

@@ -1,8 +1,10 @@
 /* kinds: reads a stream of questions on standard input, and the replies to it on
    descriptor 3. Ends with status 1 if one of the kinds below is not in it: each
    number of the reader and of the solver, with each part of a table at which it
-   can be placed. */
+   can be placed, in each version; role rows of each shape; and tables that tell
+   each mistake about roles (mistakes.h). */
 
+#include "mistakes.h"
 #include "second.h"
 #include "stream.h"
 
@@ -10,11 +12,20 @@ long read(int file, void *bytes, __SIZE_TYPE__ length);
 
 /* ---- What must not be missing */
 
+/* The version of a table, or neither, also where it has no ten bytes or another
+   mark. */
+enum version { NEITHER, ONE, TWO, VERSIONS };
+
+static const char *const version_names[VERSIONS] = { "", "version 1, ", "version 2, " };
+
 /* The parts of a table at which a refusal is placed. */
-enum part_kind { HEADER, ROLE, FILLER, LEFT_COUNT, LEFT_ENTRY, RIGHT_ENTRY, AFTER, PARTS };
+enum part_kind {
+    HEADER, ROLE_ROW_COUNT, NARROWER, WIDER, ROLE, FILLER, LEFT_COUNT, LEFT_ENTRY, RIGHT_ENTRY, AFTER
+};
 
 /* Numbers 1 to 6, with the part (or, in the header, the byte) of their place. */
 struct refusal {
+    enum version from, to; /* the versions in which it can be */
     u32 number;
     enum part_kind part;
     u32 byte; /* in the header; ANY_BYTE where it does not matter */
@@ -24,29 +35,46 @@ struct refusal {
 enum { ANY_BYTE = 255 };
 
 static const struct refusal refusals[] = {
-    { ENDS_EARLY, HEADER, ANY_BYTE, "1 in the header" },
-    { ENDS_EARLY, ROLE, ANY_BYTE, "1 at a role" },
-    { ENDS_EARLY, FILLER, ANY_BYTE, "1 at a filler" },
-    { ENDS_EARLY, LEFT_COUNT, ANY_BYTE, "1 at a left count" },
-    { ENDS_EARLY, LEFT_ENTRY, ANY_BYTE, "1 at a left entry" },
-    { ENDS_EARLY, RIGHT_ENTRY, ANY_BYTE, "1 at a right entry" },
-    { WRONG_MARK, HEADER, 0, "2 at 0" },
-    { WRONG_VERSION, HEADER, 3, "3 at 3" },
-    { COUNT_OVER_BOUND, HEADER, 6, "4 at 6" },
-    { COUNT_OVER_BOUND, HEADER, 7, "4 at 7" },
-    { COUNT_OVER_BOUND, HEADER, 8, "4 at 8" },
-    { COUNT_OVER_BOUND, HEADER, 9, "4 at 9" },
-    { COUNT_OVER_BOUND, LEFT_COUNT, ANY_BYTE, "4 at a left count" },
-    { CODE_REFUSED, ROLE, ANY_BYTE, "5 at a role" },
-    { CODE_REFUSED, FILLER, ANY_BYTE, "5 at a filler" },
-    { CODE_REFUSED, LEFT_ENTRY, ANY_BYTE, "5 at a left entry" },
-    { CODE_REFUSED, RIGHT_ENTRY, ANY_BYTE, "5 at a right entry" },
-    { BYTES_AFTER, AFTER, ANY_BYTE, "6 after the last line" },
+    { NEITHER, NEITHER, ENDS_EARLY, HEADER, ANY_BYTE, "1 in the header" },
+    { TWO, TWO, ENDS_EARLY, ROLE_ROW_COUNT, ANY_BYTE, "1 at the count of role rows" },
+    { TWO, TWO, ENDS_EARLY, NARROWER, ANY_BYTE, "1 at a narrower role" },
+    { TWO, TWO, ENDS_EARLY, WIDER, ANY_BYTE, "1 at a wider role" },
+    { ONE, TWO, ENDS_EARLY, ROLE, ANY_BYTE, "1 at a role" },
+    { ONE, TWO, ENDS_EARLY, FILLER, ANY_BYTE, "1 at a filler" },
+    { ONE, TWO, ENDS_EARLY, LEFT_COUNT, ANY_BYTE, "1 at a left count" },
+    { ONE, TWO, ENDS_EARLY, LEFT_ENTRY, ANY_BYTE, "1 at a left entry" },
+    { ONE, TWO, ENDS_EARLY, RIGHT_ENTRY, ANY_BYTE, "1 at a right entry" },
+    { NEITHER, NEITHER, WRONG_MARK, HEADER, 0, "2 at 0" },
+    { NEITHER, NEITHER, WRONG_VERSION, HEADER, 3, "3 at 3" },
+    { ONE, TWO, COUNT_OVER_BOUND, HEADER, 6, "4 at 6" },
+    { ONE, TWO, COUNT_OVER_BOUND, HEADER, 7, "4 at 7" },
+    { ONE, TWO, COUNT_OVER_BOUND, HEADER, 8, "4 at 8" },
+    { ONE, TWO, COUNT_OVER_BOUND, HEADER, 9, "4 at 9" },
+    { TWO, TWO, COUNT_OVER_BOUND, ROLE_ROW_COUNT, ANY_BYTE, "4 at the count of role rows" },
+    { ONE, TWO, COUNT_OVER_BOUND, LEFT_COUNT, ANY_BYTE, "4 at a left count" },
+    { TWO, TWO, CODE_REFUSED, NARROWER, ANY_BYTE, "5 at a narrower role" },
+    { TWO, TWO, CODE_REFUSED, WIDER, ANY_BYTE, "5 at a wider role" },
+    { ONE, TWO, CODE_REFUSED, ROLE, ANY_BYTE, "5 at a role" },
+    { ONE, TWO, CODE_REFUSED, FILLER, ANY_BYTE, "5 at a filler" },
+    { ONE, TWO, CODE_REFUSED, LEFT_ENTRY, ANY_BYTE, "5 at a left entry" },
+    { ONE, TWO, CODE_REFUSED, RIGHT_ENTRY, ANY_BYTE, "5 at a right entry" },
+    { ONE, TWO, BYTES_AFTER, AFTER, ANY_BYTE, "6 after the last line" },
 };
 
 enum { REFUSALS = sizeof refusals / sizeof refusals[0], MOST_VARIABLES = 12 };
 
-/* The other kinds. */
+/* Versions that are refused, as the number that bytes 3 and 4 are. */
+static const struct {
+    u32 version;
+    const char *name;
+} refused_versions[] = {
+    { 0, "0" }, { 3, "3" }, { 0x0100, "0x0100" }, { 0x0101, "0x0101" }, { 0x0102, "0x0102" },
+    { 0x0200, "0x0200" }, { 0x0201, "0x0201" }, { 0x0202, "0x0202" },
+};
+
+enum { REFUSED_VERSIONS = sizeof refused_versions / sizeof refused_versions[0] };
+
+/* The other kinds of both versions. */
 enum other {
     READABLE, SOLVED_BELOW_BUDGET, SOLVED_AT_BUDGET, NONE_BELOW_BUDGET, NONE_AT_BUDGET, BUDGET_0,
     BUDGET_OTHER, LINE_FOUND, LINE_BEYOND, LINE_OF_UNREADABLE, OTHERS
@@ -65,21 +93,65 @@ static const char *const other_names[OTHERS] = {
     "line: a table that is refused",
 };
 
+/* Shapes of version 2, of tables that are solved or have no solution but where a
+   refusal is named. */
+enum shape {
+    NO_ROLE_ROWS, MOST_ROLE_ROWS, ROLE_ROW_TWICE, ROLE_ROW_TO_ITSELF, ROLE_CIRCLE, ROLE_CHAIN_2,
+    ROLE_CHAIN_3, COUNT_33, COUNT_33_AT_END, COUNTS_BEFORE_IT, LINES_BEFORE_IT, NO_ROLES,
+    ROLE_BEFORE_END, SHAPES
+};
+
+static const char *const shape_names[SHAPES] = {
+    "q 0",
+    "q 32",
+    "a role row twice",
+    "a role row from a role to itself",
+    "a circle of two roles or more",
+    "a role that reaches another in two steps and no fewer",
+    "a role that reaches another in three steps or more, and no fewer",
+    "4 for q 33",
+    "4 for q 33, and no byte after it",
+    "4 for m, and q over its bound",
+    "4 for m, and no byte for q",
+    "5 for a role row where r is 0",
+    "5 for a narrower role, and no byte after it",
+};
+
 /* ---- What there is */
 
-static u64 of_read[REFUSALS], of_solve[REFUSALS], of_other[OTHERS];
-static u64 of_short[MOST_VARIABLES + 1]; /* 7, by the number of variables */
+static u64 of_read[VERSIONS][REFUSALS], of_solve[VERSIONS][REFUSALS], of_other[VERSIONS][OTHERS];
+static u64 of_short[VERSIONS][MOST_VARIABLES + 1]; /* 7, by the number of variables */
+static u64 of_refused_version[REFUSED_VERSIONS], of_shape[SHAPES], of_mistake[MISTAKES];
+
+static enum version version_of(const struct question *question)
+{
+    const u8 *table = question->table;
+    if (question->length < 10 || memcmp(table, "VOC", 3) != 0 || table[4] != 0 || table[3] > 2) {
+        return NEITHER;
+    }
+    return (enum version)table[3];
+}
 
 /* The part of a table in which a byte stands, or would stand. The table is
    readable up to there. */
 static enum part_kind part_of(const u8 *table, u32 place)
 {
-    if (place < 10) {
+    u32 at = 10;
+    if (place < at) {
         return HEADER;
     }
-    u32 at = 10 + 2 * (u32)table[8];
+    if (table[3] == 2) {
+        if (place == at) {
+            return ROLE_ROW_COUNT;
+        }
+        at += 1 + 2 * (u32)table[10];
+        if (place < at) {
+            return place % 2 == 1 ? NARROWER : WIDER;
+        }
+    }
+    at += 2 * (u32)table[8];
     if (place < at) {
-        return place % 2 == 0 ? ROLE : FILLER;
+        return (at - place) % 2 == 0 ? ROLE : FILLER;
     }
     for (u32 i = 0; i < table[9]; i++) {
         if (place == at) {
@@ -107,36 +179,137 @@ static _Noreturn void unknown(const char *what, u32 number, u32 place)
     exit(1);
 }
 
-static void count_refusal(const struct question *question, u64 *counts, u32 number, u32 place)
+/* Counts a refusal for the shapes that name one. */
+static void count_refused_shape(const struct question *question, u32 number, u32 place)
 {
+    const u8 *table = question->table;
+    u32 length = question->length;
+    if (version_of(question) != TWO) {
+        return;
+    }
+    of_shape[COUNT_33] += number == COUNT_OVER_BOUND && place == 10 && table[10] == 33;
+    of_shape[COUNT_33_AT_END] += number == COUNT_OVER_BOUND && place == 10 && table[10] == 33 && length == 11;
+    of_shape[COUNTS_BEFORE_IT] += number == COUNT_OVER_BOUND && place == 9 && length > 10 && table[10] > 32;
+    of_shape[LINES_BEFORE_IT] += number == COUNT_OVER_BOUND && place == 9 && length == 10;
+    of_shape[NO_ROLES] += number == CODE_REFUSED && place == 11 && table[6] == 0;
+    of_shape[ROLE_BEFORE_END] += number == CODE_REFUSED && part_of(table, place) == NARROWER && length == place + 1;
+}
+
+static void count_refused_version(const u8 *table)
+{
+    for (u32 i = 0; i < REFUSED_VERSIONS; i++) {
+        of_refused_version[i] += refused_versions[i].version == table[3] + 256u * table[4];
+    }
+}
+
+static void count_refusal(const struct question *question, u64 counts[VERSIONS][REFUSALS], u32 number,
+                          u32 place)
+{
+    enum version version = version_of(question);
     enum part_kind part = part_of(question->table, place);
+    if (number == WRONG_VERSION) {
+        count_refused_version(question->table);
+    }
+    count_refused_shape(question, number, place);
     for (u32 i = 0; i < REFUSALS; i++) {
         const struct refusal *refusal = &refusals[i];
-        if (refusal->number == number && refusal->part == part
-            && (refusal->byte == ANY_BYTE || refusal->byte == place)) {
-            counts[i]++;
+        if (refusal->from <= version && version <= refusal->to && refusal->number == number
+            && refusal->part == part && (refusal->byte == ANY_BYTE || refusal->byte == place)) {
+            counts[version][i]++;
             return;
         }
     }
     unknown("a question", number, place);
 }
 
-static void count_short(u32 place)
+static void count_short(enum version version, u32 place)
 {
     if (place == 0 || place % 4 != 0 || place / 4 > MOST_VARIABLES) {
         unknown("a short output", OUTPUT_SHORT, place);
     }
-    of_short[place / 4]++;
+    of_short[version][place / 4]++;
+}
+
+/* In how many steps over the role rows a role reaches another, and no fewer; 0
+   where it does not, or where they are one. */
+static u32 steps_between(const u8 *table, u32 one, u32 other)
+{
+    u32 seen = 1u << one;
+    for (u32 steps = 1; one != other && steps <= table[10]; steps++) {
+        u32 before = seen;
+        for (u32 i = 0; i < table[10]; i++) {
+            seen |= (before >> table[11 + 2 * i] & 1) << table[12 + 2 * i];
+        }
+        if (seen >> other & 1) {
+            return steps;
+        }
+    }
+    return 0;
+}
+
+/* Whether two role rows, or the same one, have these roles. */
+static int role_row_again(const u8 *table, u32 i)
+{
+    for (u32 k = 0; k < i; k++) {
+        if (memcmp(table + 11 + 2 * i, table + 11 + 2 * k, 2) == 0) {
+            return 1;
+        }
+    }
+    return 0;
+}
+
+/* Counts the shapes of the role rows of a readable table. */
+static void count_shapes(const u8 *table)
+{
+    int twice = 0, to_itself = 0, circle = 0;
+    u32 longest = 0, two = 0;
+    for (u32 i = 0; i < table[10]; i++) {
+        u32 narrower = table[11 + 2 * i], wider = table[12 + 2 * i];
+        twice |= role_row_again(table, i);
+        to_itself |= narrower == wider;
+        circle |= steps_between(table, wider, narrower) > 0;
+    }
+    for (u32 pair = 0; pair < 256; pair++) {
+        u32 steps = steps_between(table, pair / 16, pair % 16);
+        longest = steps > longest ? steps : longest;
+        two |= steps == 2;
+    }
+    of_shape[NO_ROLE_ROWS] += table[10] == 0;
+    of_shape[MOST_ROLE_ROWS] += table[10] == 32;
+    of_shape[ROLE_ROW_TWICE] += twice;
+    of_shape[ROLE_ROW_TO_ITSELF] += to_itself;
+    of_shape[ROLE_CIRCLE] += circle;
+    of_shape[ROLE_CHAIN_2] += two;
+    of_shape[ROLE_CHAIN_3] += longest >= 3;
+}
+
+/* A table of version 2 that is answered with 0 or 8. */
+static void count_roles(const struct question *question)
+{
+    if (version_of(question) != TWO) {
+        return;
+    }
+    count_shapes(question->table);
+    for (u32 mistake = 0; mistake < MISTAKES; mistake++) {
+        of_mistake[mistake] += (u64)tells(mistake, question->table, question->length, question->number, question->room);
+    }
 }
 
 static void count_solve(const struct question *question, u32 number, u32 count, u32 place)
 {
     int at_budget = count == question->number;
+    enum version version = version_of(question);
     switch (number) {
-    case SOLVED: of_other[at_budget ? SOLVED_AT_BUDGET : SOLVED_BELOW_BUDGET]++; break;
-    case NONE: of_other[at_budget ? NONE_AT_BUDGET : NONE_BELOW_BUDGET]++; break;
-    case BUDGET: of_other[count == 0 ? BUDGET_0 : BUDGET_OTHER]++; break;
-    case OUTPUT_SHORT: count_short(place); break;
+    case SOLVED:
+        of_other[version][at_budget ? SOLVED_AT_BUDGET : SOLVED_BELOW_BUDGET]++;
+        count_roles(question);
+        break;
+    case NONE:
+        of_other[version][at_budget ? NONE_AT_BUDGET : NONE_BELOW_BUDGET]++;
+        count_roles(question);
+        break;
+    case BUDGET: of_other[version][count == 0 ? BUDGET_0 : BUDGET_OTHER]++; break;
+    case OUTPUT_SHORT: count_short(version, place); break;
     default: count_refusal(question, of_solve, number, place); break;
     }
 }
@@ -144,7 +317,7 @@ static void count_solve(const struct question *question, u32 number, u32 count, 
 static void count_read(const struct question *question, u32 number, u32 place)
 {
     if (number == 0) {
-        of_other[READABLE]++;
+        of_other[version_of(question)][READABLE]++;
     } else {
         count_refusal(question, of_read, number, place);
     }
@@ -154,7 +327,7 @@ static void count_read(const struct question *question, u32 number, u32 place)
 static void count_line(const struct question *question, int empty)
 {
     int readable = second_read(question->table, question->length).number == 0;
-    of_other[!empty ? LINE_FOUND : readable ? LINE_BEYOND : LINE_OF_UNREADABLE]++;
+    of_other[version_of(question)][!empty ? LINE_FOUND : readable ? LINE_BEYOND : LINE_OF_UNREADABLE]++;
 }
 
 /* ---- The replies */
@@ -213,10 +386,11 @@ static void count_question(const struct question *question)
 static u64 rarest = ~(u64)0;
 static int missing;
 
-static void judge(const char *before, const char *name, u64 count)
+static void judge(const char *version, const char *before, const char *name, u64 count)
 {
     if (count == 0) {
         put_text("kinds: never asked: ");
+        put_text(version);
         put_text(before);
         put_text(name);
         put_byte('\n');
@@ -225,19 +399,46 @@ static void judge(const char *before, const char *name, u64 count)
     rarest = count < rarest ? count : rarest;
 }
 
-static void judge_all(void)
+static void judge_refusals(void)
 {
     for (u32 i = 0; i < REFUSALS; i++) {
-        judge("read: ", refusals[i].name, of_read[i]);
-        judge("solve: ", refusals[i].name, of_solve[i]);
+        for (u32 version = refusals[i].from; version <= refusals[i].to; version++) {
+            judge(version_names[version], "read: ", refusals[i].name, of_read[version][i]);
+            judge(version_names[version], "solve: ", refusals[i].name, of_solve[version][i]);
+        }
     }
+    for (u32 i = 0; i < REFUSED_VERSIONS; i++) {
+        judge("", "version ", refused_versions[i].name, of_refused_version[i]);
+    }
+}
+
+static void judge_others(enum version version)
+{
     for (u32 i = 0; i < OTHERS; i++) {
-        judge("", other_names[i], of_other[i]);
+        judge(version_names[version], "", other_names[i], of_other[version][i]);
     }
     for (u32 v = 1; v <= MOST_VARIABLES; v++) {
         const char number[] = { (char)('0' + v / 10), (char)('0' + v % 10), 0 };
-        judge("solve: 7, with v ", number, of_short[v]);
+        judge(version_names[version], "solve: 7, with v ", number, of_short[version][v]);
     }
+}
+
+static void judge_roles(void)
+{
+    for (u32 i = 0; i < SHAPES; i++) {
+        judge(version_names[TWO], "", shape_names[i], of_shape[i]);
+    }
+    for (u32 i = 0; i < MISTAKES; i++) {
+        judge(version_names[TWO], "another answer with ", mistake_names[i], of_mistake[i]);
+    }
+}
+
+static void judge_all(void)
+{
+    judge_refusals();
+    judge_others(ONE);
+    judge_others(TWO);
+    judge_roles();
 }
 
 int main(void)
@@ -252,7 +453,7 @@ int main(void)
     }
     judge_all();
     if (!missing) {
-        put_text("every number and every kind of place is among them (the rarest: ");
+        put_text("every number, every kind of place and every shape of role rows is among them (the rarest: ");
         put_number(rarest);
         put_text(")\n");
     }

@@ -18,9 +18,9 @@ static void put_numbers(const u32 *numbers, u32 length)
 static void reply_read(const struct solver *solver, const struct question *question)
 {
     struct reading reading = solver->read(question->table, question->length);
-    u32 numbers[7] = { reading.number, reading.place, reading.c, reading.r,
-                       reading.v, reading.e, reading.m };
-    put_numbers(numbers, 7);
+    u32 numbers[8] = { reading.number, reading.place, reading.c, reading.r,
+                       reading.v, reading.e, reading.m, reading.q };
+    put_numbers(numbers, 8);
 }
 
 static void reply_line(const struct solver *solver, const struct question *question)

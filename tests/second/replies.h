@@ -1,6 +1,6 @@
 /* The replies to a stream of questions, one line of text for each.
 
-   read:  number place c r v e m
+   read:  number place c r v e m q
    line:  the part's bytes in hex, `-` for an empty part
    solve: number count place, and the whole output afterwards in hex, `-` if it
           has no bytes; the output is filled with the byte AA before the call

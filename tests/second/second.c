@@ -2,17 +2,21 @@
 
    A set of non-variable atoms is a bit mask: bit k for constant k, bit c + k
    for restriction k. A conjunction of atoms is the union of their sets, so a
-   line asks whether one set lies below another. */
+   line asks whether one set lies below another.
+
+   What the role rows say is worked out once for a table, by a search from each
+   role, and kept as a mask of rows for each row. */
 
 #include "second.h"
 
 enum {
-    HEADER = 10,         /* bytes before the first row */
+    HEADER = 10,         /* bytes up to the five counts */
     MOST_ATOMS = 24,     /* c + e */
     MOST_ROLES = 16,
     MOST_VARIABLES = 12,
     MOST_LINES = 64,
-    MOST_LEFT = 8        /* p */
+    MOST_LEFT = 8,       /* p */
+    MOST_ROLE_ROWS = 32  /* q */
 };
 
 /* ---- A table, decoded */
@@ -23,6 +27,10 @@ enum kind { TOP, CONSTANT, RESTRICTION, VARIABLE, REFUSED };
 struct code {
     enum kind kind;
     u32 k;
+};
+
+struct role_row {
+    u32 narrower, wider;
 };
 
 struct row {
@@ -39,9 +47,12 @@ struct line {
 };
 
 struct table {
-    u32 c, r, v, e, m;
+    u32 version;
+    u32 c, r, v, e, m, q;
+    struct role_row role_rows[MOST_ROLE_ROWS];
     struct row rows[MOST_ATOMS];
     struct line lines[MOST_LINES];
+    u32 under[MOST_ATOMS]; /* bit i of under[j]: the role of row i lies under that of row j */
 };
 
 /* Where a reader stands. `number` is 0 until the table is refused, and then
@@ -125,7 +136,8 @@ static void read_header(struct reader *reader, struct table *table)
         refuse(reader, WRONG_MARK, 0);
         return;
     }
-    if (reader->bytes[3] != 1 || reader->bytes[4] != 0) {
+    table->version = reader->bytes[3] | (u32)reader->bytes[4] << 8;
+    if (table->version != 1 && table->version != 2) {
         refuse(reader, WRONG_VERSION, 3);
         return;
     }
@@ -138,15 +150,31 @@ static void read_header(struct reader *reader, struct table *table)
         refuse(reader, COUNT_OVER_BOUND, 8);
     }
     table->m = next_count(reader, MOST_LINES);
+    table->q = table->version == 2 ? next_count(reader, MOST_ROLE_ROWS) : 0;
+}
+
+/* The next byte as a role. */
+static u32 next_role(struct reader *reader, const struct table *table)
+{
+    u32 role = next_byte(reader);
+    if (reader->number == 0 && role >= table->r) {
+        refuse(reader, CODE_REFUSED, reader->at - 1);
+    }
+    return role;
+}
+
+static struct role_row read_role_row(struct reader *reader, const struct table *table)
+{
+    struct role_row row;
+    row.narrower = next_role(reader, table);
+    row.wider = next_role(reader, table);
+    return row;
 }
 
 static struct row read_row(struct reader *reader, const struct table *table)
 {
     struct row row;
-    row.role = next_byte(reader);
-    if (reader->number == 0 && row.role >= table->r) {
-        refuse(reader, CODE_REFUSED, reader->at - 1);
-    }
+    row.role = next_role(reader, table);
     row.filler = next_code(reader, table, RESTRICTION);
     return row;
 }
@@ -183,8 +211,11 @@ static void read_line(struct reader *reader, const struct table *table, struct l
 static struct reading decode_table(const u8 *bytes, u32 length, struct table *table)
 {
     struct reader reader = { bytes, length, 0, 0, 0 };
-    struct reading reading = { 0, 0, 0, 0, 0, 0, 0 };
+    struct reading reading = { 0, 0, 0, 0, 0, 0, 0, 0 };
     read_header(&reader, table);
+    for (u32 i = 0; reader.number == 0 && i < table->q; i++) {
+        table->role_rows[i] = read_role_row(&reader, table);
+    }
     for (u32 k = 0; reader.number == 0 && k < table->e; k++) {
         table->rows[k] = read_row(&reader, table);
     }
@@ -202,6 +233,7 @@ static struct reading decode_table(const u8 *bytes, u32 length, struct table *ta
         reading.v = table->v;
         reading.e = table->e;
         reading.m = table->m;
+        reading.q = table->q;
     }
     return reading;
 }
@@ -220,6 +252,35 @@ struct part second_line(const u8 *bytes, u32 length, u32 line)
         return empty;
     }
     return table.lines[line].part;
+}
+
+/* ---- Roles */
+
+/* `seen`, and all roles that a role reaches over the role rows in zero or more
+   steps, but for those that are reached only over roles of `seen`: bit t for
+   role t. */
+static u32 search(const struct table *table, u32 role, u32 seen)
+{
+    seen |= 1u << role;
+    for (u32 i = 0; i < table->q; i++) {
+        const struct role_row *row = &table->role_rows[i];
+        if (row->narrower == role && !(seen >> row->wider & 1)) {
+            seen = search(table, row->wider, seen);
+        }
+    }
+    return seen;
+}
+
+/* Enters the masks of rows, where bit t of wider[s] says that role s lies under
+   role t. */
+static void enter_roles(struct table *table, const u32 *wider)
+{
+    for (u32 j = 0; j < table->e; j++) {
+        table->under[j] = 0;
+        for (u32 i = 0; i < table->e; i++) {
+            table->under[j] |= (wider[table->rows[i].role] >> table->rows[j].role & 1) << i;
+        }
+    }
 }
 
 /* ---- A node */
@@ -264,9 +325,8 @@ static int below_atom(struct asking *asking, u32 left, u32 atom)
         return left >> atom & 1;
     }
     u32 j = atom - table->c;
-    for (u32 rest = left >> table->c; rest != 0; rest &= rest - 1) {
-        u32 i = (u32)__builtin_ctz(rest);
-        if (table->rows[i].role == table->rows[j].role && filler_below_filler(asking, i, j)) {
+    for (u32 rest = left >> table->c & table->under[j]; rest != 0; rest &= rest - 1) {
+        if (filler_below_filler(asking, (u32)__builtin_ctz(rest), j)) {
             return 1;
         }
     }
@@ -453,27 +513,49 @@ static void write_sets(const struct node *node, u8 *output)
     }
 }
 
-struct answer second_solve(const u8 *bytes, u32 length, u32 budget, u8 *output, u32 room)
+/* Walks a readable table. */
+static struct answer solve_table(const struct table *table, u32 budget, u8 *output, u32 room)
 {
-    struct table table;
-    struct reading reading = decode_table(bytes, length, &table);
-    struct answer answer = { reading.number, 0, reading.place };
-    if (reading.number != 0) {
-        return answer;
-    }
-    if (room < 4 * table.v) {
-        answer.number = OUTPUT_SHORT;
-        answer.place = 4 * table.v;
+    struct answer answer = { OUTPUT_SHORT, 0, 4 * table->v };
+    if (room < 4 * table->v) {
         return answer;
     }
     struct walk walk;
-    walk.table = &table;
+    walk.table = table;
     walk.budget = budget;
     walk.count = 0;
     answer.number = walk_from_start(&walk);
     answer.count = walk.count;
+    answer.place = 0;
     if (answer.number == SOLVED) {
         write_sets(&walk.solved, output);
     }
     return answer;
+}
+
+struct answer second_solve_over(const u32 *wider, const u8 *bytes, u32 length, u32 budget, u8 *output,
+                                u32 room)
+{
+    struct table table;
+    struct reading reading = decode_table(bytes, length, &table);
+    if (reading.number != 0) {
+        return (struct answer){ reading.number, 0, reading.place };
+    }
+    enter_roles(&table, wider);
+    return solve_table(&table, budget, output, room);
+}
+
+struct answer second_solve(const u8 *bytes, u32 length, u32 budget, u8 *output, u32 room)
+{
+    struct table table;
+    u32 wider[MOST_ROLES];
+    struct reading reading = decode_table(bytes, length, &table);
+    if (reading.number != 0) {
+        return (struct answer){ reading.number, 0, reading.place };
+    }
+    for (u32 role = 0; role < table.r; role++) {
+        wider[role] = search(&table, role, 0);
+    }
+    enter_roles(&table, wider);
+    return solve_table(&table, budget, output, room);
 }

@@ -14,4 +14,9 @@ struct part second_line(const u8 *bytes, u32 length, u32 line);
 
 struct answer second_solve(const u8 *bytes, u32 length, u32 budget, u8 *output, u32 room);
 
+/* The same under another relation between roles than the table's role rows say:
+   bit t of wider[s], for each s < r, says that role s lies under role t. */
+struct answer second_solve_over(const u32 *wider, const u8 *bytes, u32 length, u32 budget, u8 *output,
+                                u32 room);
+
 #endif

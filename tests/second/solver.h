@@ -19,10 +19,11 @@ enum {
     BUDGET = 9
 };
 
-/* What the reader answers: the five counts are 0 where the table is refused. */
+/* What the reader answers: the counts are 0 where the table is refused, and q is
+   0 in version 1. */
 struct reading {
     u32 number, place;
-    u32 c, r, v, e, m;
+    u32 c, r, v, e, m, q;
 };
 
 /* A part of a table: `length` bytes from byte `start` on. */

@@ -45,15 +45,25 @@ static void add_lines_by_trial(struct chance *chance, u32 walk, struct draft *dr
 
 /* ---- Makes of tables */
 
+/* Counts; half of the drafts have version 2, and then more roles. */
+static void start(struct chance *chance, struct draft *draft, u32 c, u32 r, u32 v)
+{
+    draft_start(draft, c, r, v);
+    if (percent(chance, 50)) {
+        draft->r = between(chance, r, r < 12 ? r + 4 : 16);
+        add_random_role_rows(chance, draft);
+    }
+}
+
 /* Counts, with 1 to `atoms` constants and rows together, and the rows. */
 static void start_by_chance(struct chance *chance, struct draft *draft, u32 atoms, u32 least_v,
                             u32 most_v)
 {
     u32 all = between(chance, 1, atoms);
     u32 c = percent(chance, 50) ? below_bound(chance, 2) : below_bound(chance, all + 1);
-    draft_start(draft, c, between(chance, 1, 2), between(chance, least_v, most_v));
+    start(chance, draft, c, between(chance, 1, 2), between(chance, least_v, most_v));
     add_random_rows(chance, draft, all - c);
-    if (draft->e == 0 && percent(chance, 50)) {
+    if (draft->e + draft->q == 0 && percent(chance, 50)) {
         draft->r = 0;
     }
 }
@@ -101,7 +111,7 @@ static void make_chain(struct chance *chance, u32 walk, struct draft *draft)
 {
     u32 up = (u32)percent(chance, 50);
     u32 v = between(chance, 2, up ? 3 : 6);
-    draft_start(draft, between(chance, 0, 1), between(chance, 1, 2), v);
+    start(chance, draft, between(chance, 0, 1), between(chance, 1, 2), v);
     for (u32 x = 0; x + 1 < v; x++) {
         u8 left = (u8)(CODE_VARIABLE + x + 1 - up);
         add_row(draft, below_bound(chance, draft->r), CODE_VARIABLE + x + up);
@@ -113,10 +123,10 @@ static void make_chain(struct chance *chance, u32 walk, struct draft *draft)
     add_lines_by_trial(chance, walk, draft, between(chance, 1, 4), 3);
 }
 
-/* One role for most rows, and the last role for some. */
+/* One role for most rows, and the last role for some, more in version 2. */
 static u32 mostly_first_role(struct chance *chance, const struct draft *draft)
 {
-    return percent(chance, 90) ? 0 : draft->r - 1;
+    return percent(chance, draft->version == 1 ? 90 : 60) ? 0 : draft->r - 1;
 }
 
 /* A tower: variable x + 1 is below a restriction on variable x, so that the
@@ -124,7 +134,7 @@ static u32 mostly_first_role(struct chance *chance, const struct draft *draft)
 static void make_tower(struct chance *chance, u32 walk, struct draft *draft)
 {
     u32 v = between(chance, 3, 12);
-    draft_start(draft, below_bound(chance, 2), percent(chance, 80) ? 1 : 2, v);
+    start(chance, draft, below_bound(chance, 2), percent(chance, 80) ? 1 : 2, v);
     for (u32 x = 0; x + 1 < v; x++) {
         u8 higher = (u8)(CODE_VARIABLE + x + 1);
         add_row(draft, mostly_first_role(chance, draft), CODE_VARIABLE + x);
@@ -144,7 +154,7 @@ static void make_two_towers(struct chance *chance, u32 walk, struct draft *draft
 {
     u32 height = between(chance, 2, 5);
     u8 bottom[2] = { CODE_VARIABLE, CODE_VARIABLE + 1 };
-    draft_start(draft, between(chance, 1, 2), percent(chance, 80) ? 1 : 2, 2 * height);
+    start(chance, draft, between(chance, 1, 2), percent(chance, 80) ? 1 : 2, 2 * height);
     add_line(draft, 1, bottom, CODE_CONSTANT + below_bound(chance, draft->c));
     if (percent(chance, 70)) {
         add_line(draft, 1, bottom + 1, CODE_CONSTANT + below_bound(chance, draft->c));
@@ -173,6 +183,16 @@ void make_ring(struct draft *draft, u32 before, u32 ring, u32 after)
     }
 }
 
+/* Version 2 for a ring: some of its rows have another role. */
+static void add_roles_to_ring(struct chance *chance, struct draft *draft)
+{
+    draft->r = between(chance, 2, 5);
+    add_random_role_rows(chance, draft);
+    for (u32 k = 0; k < draft->e; k++) {
+        draft->row[k].role = (u8)(percent(chance, 60) ? 0 : below_bound(chance, draft->r));
+    }
+}
+
 /* A ring, often with a way across it, a constant, or a row of another role. */
 static void make_circles(struct chance *chance, u32 walk, struct draft *draft)
 {
@@ -181,7 +201,9 @@ static void make_circles(struct chance *chance, u32 walk, struct draft *draft)
     if (percent(chance, 50)) {
         draft->row[below_bound(chance, draft->e - 1)].filler = (u8)(CODE_VARIABLE + below_bound(chance, draft->v));
     }
-    if (percent(chance, 20)) {
+    if (percent(chance, 40)) {
+        add_roles_to_ring(chance, draft);
+    } else if (percent(chance, 30)) {
         draft->r = 2;
         draft->row[below_bound(chance, draft->e)].role = 1;
     }
@@ -195,7 +217,7 @@ static void make_wide(struct chance *chance, u32 walk, struct draft *draft)
 {
     u32 all = between(chance, 5, 24);
     u32 c = percent(chance, 30) ? below_bound(chance, all + 1) : below_bound(chance, 4);
-    draft_start(draft, c, between(chance, 1, 16), between(chance, 1, 12));
+    start(chance, draft, c, between(chance, 1, 16), between(chance, 1, 12));
     add_random_rows(chance, draft, all - c);
     u32 lines = between(chance, 0, 3);
     for (u32 i = 0; i < lines; i++) {
@@ -245,9 +267,17 @@ void make_table(struct chance *chance, u32 walk, struct draft *draft)
     makes[i].make(chance, walk, draft);
 }
 
-void make_full_table(struct chance *chance, u32 walk, struct draft *draft)
+void make_table_of(struct chance *chance, u32 walk, u32 version, struct draft *draft)
 {
     do {
         make_table(chance, walk, draft);
-    } while (draft->e == 0 || draft->m == 0 || draft->line[draft->m - 1].p == 0);
+    } while (draft->version != version);
+}
+
+void make_full_table(struct chance *chance, u32 walk, u32 version, struct draft *draft)
+{
+    do {
+        make_table_of(chance, walk, version, draft);
+    } while (draft->e == 0 || draft->m == 0 || draft->line[draft->m - 1].p == 0
+             || (version == 2 && draft->q == 0));
 }

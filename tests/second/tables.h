@@ -6,12 +6,16 @@
 
 #include "draft.h"
 
-/* Fills a draft with a readable table. `walk` is about how many nodes the walk
-   of most tables may have. */
+/* Fills a draft with a readable table, of either version. `walk` is about how many
+   nodes the walk of most tables may have. */
 void make_table(struct chance *chance, u32 walk, struct draft *draft);
 
-/* The same, with at least one row and a last line that has a left entry. */
-void make_full_table(struct chance *chance, u32 walk, struct draft *draft);
+/* The same, of this version. */
+void make_table_of(struct chance *chance, u32 walk, u32 version, struct draft *draft);
+
+/* The same, with at least one row, in version 2 one role row, and a last line that
+   has a left entry. */
+void make_full_table(struct chance *chance, u32 walk, u32 version, struct draft *draft);
 
 /* A ring of variables, entered from those before it: each variable's row leads to
    the next, and the last of the ring has one to its first. Each of them is below

@@ -28,16 +28,28 @@ static _Noreturn void give_up(const char *message)
     fail(message);
 }
 
-/* "Bounds: c + e at most 24, r at most 16, v at most 12, m at most 64, p at most 8." */
-enum { MOST_ATOMS = 24, MOST_ROLES = 16, MOST_VARIABLES = 12, MOST_LINES = 64, MOST_LEFT = 8 };
+/* "Bounds: c + e at most 24, r at most 16, v at most 12, m at most 64, p at most 8."
+   "the count q of role rows, at most 32" */
+enum {
+    MOST_ATOMS = 24,
+    MOST_ROLES = 16,
+    MOST_VARIABLES = 12,
+    MOST_LINES = 64,
+    MOST_LEFT = 8,
+    MOST_ROLE_ROWS = 32
+};
 
 /* ---- A table is its bytes, and where they stand */
 
 struct table {
     const u8 *byte;
     u32 length;
-    u32 c, r, v, e, m;
+    u32 version;
+    u32 c, r, v, e, m, q;
+    u32 role_rows;        /* the byte of the first role row */
+    u32 rows;             /* the byte of the first restriction row */
     u32 line[MOST_LINES]; /* the byte of each line's left count */
+    u8 reaches[MOST_ROLES][MOST_ROLES]; /* the first role reaches the second */
 };
 
 /* "Codes fall in four ranges": a code is 32 times its range, and a number. */
@@ -71,15 +83,26 @@ static int declared(const struct table *table, u32 code)
     }
 }
 
+/* "q rows of two roles (narrower, then wider)" */
+static u32 narrower_of(const struct table *table, u32 i)
+{
+    return table->byte[table->role_rows + 2 * i];
+}
+
+static u32 wider_of(const struct table *table, u32 i)
+{
+    return table->byte[table->role_rows + 2 * i + 1];
+}
+
 /* "Then e restriction rows of two bytes: a role, less than r, and a filler code." */
 static u32 role_of(const struct table *table, u32 k)
 {
-    return table->byte[10 + 2 * k];
+    return table->byte[table->rows + 2 * k];
 }
 
 static u32 filler_of(const struct table *table, u32 k)
 {
-    return table->byte[10 + 2 * k + 1];
+    return table->byte[table->rows + 2 * k + 1];
 }
 
 /* "each a left count p, p atom codes, and one right atom code" */
@@ -170,14 +193,16 @@ static int ten_bytes_follow(struct cursor *cursor)
     return length >= 10 ? 1 : refuse(cursor, ENDS_EARLY, length);
 }
 
-/* "Bytes 0 to 2: the mark `VOC` (56 4F 43). Bytes 3 and 4: version, 1." */
+/* "Bytes 0 to 2: the mark `VOC` (56 4F 43). Bytes 3 and 4: version, 1." "3 now
+   means neither 1 nor 2". */
 static int mark_and_version_follow(struct cursor *cursor)
 {
     const u8 *byte = cursor->table->byte;
     if (byte[0] != 0x56 || byte[1] != 0x4F || byte[2] != 0x43) {
         return refuse(cursor, WRONG_MARK, 0);
     }
-    if (byte[3] + 256 * byte[4] != 1) {
+    cursor->table->version = byte[3] + 256u * byte[4];
+    if (cursor->table->version == 0 || cursor->table->version > 2) {
         return refuse(cursor, WRONG_VERSION, 3);
     }
     cursor->at = 5;
@@ -194,9 +219,28 @@ static int counts_follow(struct cursor *cursor)
         && count_follows(cursor, MOST_LINES, &table->m);
 }
 
+/* "In version 2 byte 10 is the count q of role rows, at most 32, and q rows of two
+   roles (narrower, then wider) follow it." */
+static int role_rows_follow(struct cursor *cursor)
+{
+    struct table *table = cursor->table;
+    table->q = 0;
+    if (table->version == 2 && !count_follows(cursor, MOST_ROLE_ROWS, &table->q)) {
+        return 0;
+    }
+    table->role_rows = cursor->at;
+    for (u32 i = 0; i < 2 * table->q; i++) {
+        if (!role_follows(cursor)) {
+            return 0;
+        }
+    }
+    return 1;
+}
+
 /* "A filler is top, a constant or a variable." */
 static int rows_follow(struct cursor *cursor)
 {
+    cursor->table->rows = cursor->at;
     for (u32 k = 0; k < cursor->table->e; k++) {
         if (!role_follows(cursor) || !code_follows(cursor, RESTRICTION)) {
             return 0;
@@ -240,20 +284,21 @@ static int nothing_follows(struct cursor *cursor)
 static int table_follows(struct cursor *cursor)
 {
     return ten_bytes_follow(cursor) && mark_and_version_follow(cursor) && counts_follow(cursor)
-        && rows_follow(cursor) && lines_follow(cursor) && nothing_follows(cursor);
+        && role_rows_follow(cursor) && rows_follow(cursor) && lines_follow(cursor)
+        && nothing_follows(cursor);
 }
 
 /* "The reader answers 0 to 6 with the same places, and the five counts (zeros
-   when refused)." */
+   when refused)." "The reader hands back q too (0 in version 1)". */
 static struct reading read_table(struct table *table, const u8 *bytes, u32 length)
 {
     struct cursor cursor = { table, 0, 0, 0 };
     table->byte = bytes;
     table->length = length;
     if (!table_follows(&cursor)) {
-        return (struct reading){ cursor.number, cursor.place, 0, 0, 0, 0, 0 };
+        return (struct reading){ cursor.number, cursor.place, 0, 0, 0, 0, 0, 0 };
     }
-    return (struct reading){ 0, 0, table->c, table->r, table->v, table->e, table->m };
+    return (struct reading){ 0, 0, table->c, table->r, table->v, table->e, table->m, table->q };
 }
 
 static struct reading trees_read(const u8 *bytes, u32 length)
@@ -271,6 +316,39 @@ static struct part trees_line(const u8 *bytes, u32 length, u32 line)
         return (struct part){ 0, 0 };
     }
     return (struct part){ table.line[line], left_count(&table, line) + 2 };
+}
+
+/* ---- Roles */
+
+/* Enters one more step over role row i, for each role that reaches its narrower
+   one. Answers whether a role reaches more by it. */
+static int one_more_step(struct table *table, u32 i)
+{
+    int more = 0;
+    for (u32 s = 0; s < MOST_ROLES; s++) {
+        u8 *wider = &table->reaches[s][wider_of(table, i)];
+        if (table->reaches[s][narrower_of(table, i)] && !*wider) {
+            *wider = more = 1;
+        }
+    }
+    return more;
+}
+
+/* "its role reaches the other's over these rows in zero or more steps": zero
+   first, and then one more as long as there is one. */
+static void enter_steps(struct table *table)
+{
+    int more = 1;
+    memset(table->reaches, 0, sizeof table->reaches);
+    for (u32 s = 0; s < MOST_ROLES; s++) {
+        table->reaches[s][s] = 1;
+    }
+    while (more) {
+        more = 0;
+        for (u32 i = 0; i < table->q; i++) {
+            more |= one_more_step(table, i);
+        }
+    }
 }
 
 /* ---- A node: sets for variables 0 to chosen - 1 */
@@ -436,15 +514,22 @@ static description substituted(const struct node *node, u32 code, description ot
     }
 }
 
-static int below(description c, description d);
+static int below(const struct table *table, description c, description d);
 
-/* Whether C has this constant, or "a restriction with the same role s whose
-   filler is below D'". */
-static int has(description c, const struct conjunct *wanted)
+/* "A restriction lies below another if its role reaches the other's over these
+   rows in zero or more steps and the fillers agree as before". */
+static int restriction_below(const struct table *table, const struct conjunct *one,
+                             const struct conjunct *other)
+{
+    return table->reaches[one->name][other->name] && below(table, one->filler, other->filler);
+}
+
+/* Whether C has this constant, or a restriction below this one. */
+static int has(const struct table *table, description c, const struct conjunct *wanted)
 {
     for (; c != 0; c = c->next) {
-        if (c->range == wanted->range && c->name == wanted->name
-            && (c->range == CONSTANT || below(c->filler, wanted->filler))) {
+        if (c->range == wanted->range
+            && (c->range == CONSTANT ? c->name == wanted->name : restriction_below(table, c, wanted))) {
             return 1;
         }
     }
@@ -453,10 +538,10 @@ static int has(description c, const struct conjunct *wanted)
 
 /* Corollary 1: "C is below D when every constant among D's conjuncts is among
    C's, and for each restriction of D, ... C has a restriction ...". */
-static int below(description c, description d)
+static int below(const struct table *table, description c, description d)
 {
     for (; d != 0; d = d->next) {
-        if (!has(c, d)) {
+        if (!has(table, c, d)) {
             return 0;
         }
     }
@@ -472,7 +557,7 @@ static int holds(const struct node *node, u32 line)
     for (u32 i = 0; i < left_count(table, line); i++) {
         left = substituted(node, left_entry(table, line, i), left);
     }
-    return below(left, substituted(node, right_entry(table, line), 0));
+    return below(table, left, substituted(node, right_entry(table, line), 0));
 }
 
 /* ---- Circles that were met */
@@ -680,6 +765,7 @@ static struct answer trees_solve(const u8 *bytes, u32 length, u32 budget, u8 *ou
     if (room < 4 * table.v) {
         return (struct answer){ OUTPUT_SHORT, 0, 4 * table.v };
     }
+    enter_steps(&table);
     return walk_table(&table, budget, output);
 }
 

@@ -23,9 +23,10 @@
  *        0  solved; of makrothel_read: readable             N      0
  *        1  the table ends early                            0      the table's length
  *        2  wrong mark                                      0      0
- *        3  the version is not 1                            0      3
- *        4  a count is over its bound                       0      its byte
- *        5  a code or role not declared or not allowed      0      its byte
+ *        3  the version is neither 1 nor 2                  0      3
+ *        4  a count is over its bound (q: 32)               0      its byte (q: 10)
+ *        5  a code or role not declared or not allowed,     0      its byte
+ *           role rows included
  *        6  bytes after the last line                       0      the first of them
  *        7  the output is shorter than 4v bytes             0      4v
  *        8  none: nothing solves the table                  N      0
@@ -33,6 +34,13 @@
  *
  *   makrothel_read returns 0 to 6, and makrothel_solve 0 to 9. N is how many nodes the walk examined, v how many
  *   variables the table has. The table's first byte is byte 0.
+ *
+ * THE VERSIONS
+ *
+ *   In version 2, byte 10 is the count q of role rows, at most 32, and q role rows follow it, before the restriction
+ *   rows: two roles each, the narrower and then the wider, both less than r. A restriction lies below another if its
+ *   role reaches the other's over these rows in zero or more steps, and its filler lies below the other's. Circles of
+ *   roles and repeated rows are allowed. In version 1 there are no role rows, and a role reaches itself alone.
  */
 #ifndef MAKROTHEL_H
 #define MAKROTHEL_H
@@ -61,11 +69,11 @@ extern "C" {
 /*
  * Reads a table, and returns 0 where it is readable and else a number of 1 to 6.
  *
- * Always writes all six elements: numbers[0] is the place (0 where the table is readable), and numbers[1] to
- * numbers[5] are the counts of constants c, roles r, variables v, restrictions e and lines m. The five counts are 0
- * where the table is refused.
+ * Always writes all seven elements: numbers[0] is the place (0 where the table is readable), numbers[1] to numbers[5]
+ * are the counts of constants c, roles r, variables v, restrictions e and lines m, and numbers[6] is the count q of role
+ * rows (0 in version 1 and where the table is refused). The five counts, too, are 0 where the table is refused.
  */
-uint32_t makrothel_read(const uint8_t *table, size_t table_length, uint64_t numbers[6]);
+uint32_t makrothel_read(const uint8_t *table, size_t table_length, uint64_t numbers[7]);
 
 /*
  * Finds line n of a table, counted from 0, and returns 1 where there is one and 0 where there is none, because the

@@ -1,4 +1,5 @@
-/* Asks Makrothel, through its interface for C, about the worked example and about a table that is refused. */
+/* Asks Makrothel, through its interface for C, about the worked example, about a table with a role row, and about tables
+   that are refused. */
 
 #include "makrothel.h"
 
@@ -13,6 +14,11 @@ static const uint8_t worked[] = {0x56, 0x4F, 0x43, 0x01, 0x00, 0x01, 0x01, 0x02,
 static const uint8_t undeclared[] = {0x56, 0x4F, 0x43, 0x01, 0x00, 0x01, 0x01, 0x02, 0x01,
                                      0x02, 0x00, 0x61, 0x01, 0x60, 0x40, 0x01, 0x61, 0x21};
 
+/* Version 2: one constant, two roles, one variable, two restrictions, one line: v0 below some r1 c0, where the role row
+   says that r0 is narrower than r1. */
+static const uint8_t roles[] = {0x56, 0x4F, 0x43, 0x02, 0x00, 0x01, 0x02, 0x01, 0x02, 0x01, 0x01,
+                                0x00, 0x01, 0x00, 0x20, 0x01, 0x20, 0x01, 0x60, 0x41};
+
 static void print_bytes(const uint8_t *bytes, uint64_t length)
 {
     for (uint64_t i = 0; i < length; i++) printf(" %02x", bytes[i]);
@@ -20,11 +26,12 @@ static void print_bytes(const uint8_t *bytes, uint64_t length)
 
 static void read_table(const uint8_t *table, size_t length)
 {
-    uint64_t numbers[6];
+    uint64_t numbers[7];
     uint32_t number = makrothel_read(table, length, numbers);
-    printf("read: number %u, place %llu, c %llu, r %llu, v %llu, e %llu, m %llu\n", number,
+    printf("read: number %u, place %llu, c %llu, r %llu, v %llu, e %llu, m %llu, q %llu\n", number,
            (unsigned long long)numbers[0], (unsigned long long)numbers[1], (unsigned long long)numbers[2],
-           (unsigned long long)numbers[3], (unsigned long long)numbers[4], (unsigned long long)numbers[5]);
+           (unsigned long long)numbers[3], (unsigned long long)numbers[4], (unsigned long long)numbers[5],
+           (unsigned long long)numbers[6]);
 }
 
 static void show_line(const uint8_t *table, size_t length, uint32_t n)
@@ -60,6 +67,18 @@ int main(void)
     solve_table(worked, sizeof worked, 1000000, 10);
     solve_table(worked, sizeof worked, 13, 10);
     solve_table(worked, sizeof worked, 1000000, 7);
+
+    printf("a role row\n");
+    read_table(roles, sizeof roles);
+    show_line(roles, sizeof roles, 0);
+    show_line(roles, sizeof roles, 1);
+    solve_table(roles, sizeof roles, 4, 4);
+    solve_table(roles, sizeof roles, 3, 4);
+
+    printf("no count of role rows\n");
+    read_table(roles, 10);
+    show_line(roles, 10, 0);
+    solve_table(roles, 10, 4, 4);
 
     printf("a constant that is not declared\n");
     read_table(undeclared, sizeof undeclared);

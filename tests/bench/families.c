@@ -6,7 +6,9 @@
      variables  many variables, few atoms
      lines      many lines with long left sides
      none       no solution, found only at the end of a long walk
+     roles      chains of role rows, without which most answers are others
      bounds     one table at every bound, for the measure of the stack
+     role-bounds  the same with the most role rows
 
    families NAME short: the same tables with small budgets. */
 
@@ -228,16 +230,143 @@ static void none(void)
     torn_chain(4, 4);
 }
 
+/* ---- roles */
+
+/* Role rows from each role to the next, the last step first. */
+static void chain_of_roles(struct draft *draft)
+{
+    for (u32 s = draft->r - 1; s-- > 0;) {
+        add_role_row(draft, s, s + 1);
+    }
+}
+
+/* X0 below s X1, X1 below s X2, and so on, where s is the widest role; the last
+   below the constant. There are rows of narrower roles, and none of s on the
+   variables that a set can take before them. */
+static void role_chain_up(u32 v, u32 roles, u32 more_constants, u32 budget)
+{
+    struct draft draft;
+    draft_start(&draft, 1 + more_constants, roles, v);
+    chain_of_roles(&draft);
+    for (u32 x = 0; x + 1 < v; x++) {
+        add_row(&draft, x % (roles - 1), variable(x + 1));
+    }
+    for (u32 x = 0; x + 1 < v; x++) {
+        add_row(&draft, roles - 1, variable(x + 1));
+        below_code(&draft, x, CODE_RESTRICTION + v - 1 + x);
+    }
+    below_code(&draft, v - 1, CODE_CONSTANT + more_constants);
+    ask(&draft, budget);
+}
+
+/* Two towers, the one by the narrowest role and the other by the widest, and the
+   top of the one below that of the other. */
+static void role_towers(u32 height, u32 roles, u32 budget)
+{
+    struct draft draft;
+    draft_start(&draft, 1, roles, 2 * height);
+    chain_of_roles(&draft);
+    below_code(&draft, 0, CODE_CONSTANT);
+    below_code(&draft, 1, CODE_CONSTANT);
+    for (u32 x = 0; x + 2 < 2 * height; x++) {
+        add_row(&draft, x % 2 == 0 ? 0 : roles - 1, variable(x));
+        below_code(&draft, x + 2, CODE_RESTRICTION + x);
+    }
+    below_code(&draft, 2 * height - 2, CODE_RESTRICTION + 2 * height - 3);
+    below_code(&draft, 2 * height - 2, variable(2 * height - 1));
+    ask(&draft, budget);
+}
+
+/* The last variable is below A and B, and r A and s B are below t of it, where t is
+   wider than r and s: no solution. */
+static void role_torn(u32 v, u32 roles, u32 rows)
+{
+    struct draft draft;
+    u8 left[2] = { CODE_RESTRICTION, CODE_RESTRICTION + 1 };
+    draft_start(&draft, 2, roles, v);
+    chain_of_roles(&draft);
+    add_row(&draft, 0, CODE_CONSTANT);
+    add_row(&draft, roles / 2, CODE_CONSTANT + 1);
+    add_row(&draft, roles - 1, variable(v - 1));
+    add_random_rows(&chance, &draft, rows);
+    below_code(&draft, v - 1, CODE_CONSTANT);
+    below_code(&draft, v - 1, CODE_CONSTANT + 1);
+    add_line(&draft, 2, left, CODE_RESTRICTION + 2);
+    ask(&draft, 0xFFFFFFFF);
+}
+
+/* Each variable below the widest role of the next one, around a ring, with rows of
+   the narrowest role too: no solution. */
+static void role_ring(u32 v, u32 roles, u32 more_constants)
+{
+    struct draft draft;
+    draft_start(&draft, more_constants, roles, v);
+    chain_of_roles(&draft);
+    for (u32 x = 0; x < v; x++) {
+        add_row(&draft, 0, variable((x + 1) % v));
+    }
+    for (u32 x = 0; x < v; x++) {
+        add_row(&draft, roles - 1, variable((x + 1) % v));
+        below_code(&draft, x, CODE_RESTRICTION + v + x);
+    }
+    ask(&draft, 0xFFFFFFFF);
+}
+
+/* For each of three fillers a row of every role; lines in which one entry of eight is
+   below the right one, by its role, and that are tested at each full node; and after
+   them two that do not hold by themselves. */
+static void role_lines(u32 c, u32 roles, u32 v, u32 lines)
+{
+    static const u8 filler[3] = { CODE_TOP, CODE_VARIABLE, CODE_CONSTANT };
+    struct draft draft;
+    u8 left[8];
+    draft_start(&draft, c, roles, v);
+    chain_of_roles(&draft);
+    for (u32 k = 0; k < 3 * roles; k++) {
+        add_row(&draft, k % roles, filler[k / roles]);
+    }
+    for (u32 i = 0; i < lines; i++) {
+        u32 of = below_bound(&chance, 3) * roles;
+        for (u32 k = 0; k < 6; k++) {
+            left[k] = (u8)(CODE_RESTRICTION + below_bound(&chance, 3 * roles));
+        }
+        left[6] = (u8)(CODE_RESTRICTION + of + below_bound(&chance, roles - 1));
+        left[7] = variable(v - 1);
+        add_line(&draft, 8, left, CODE_RESTRICTION + of + roles - 1);
+    }
+    below_code(&draft, 0, CODE_RESTRICTION + 3 * roles - 1);
+    below_code(&draft, v - 1, CODE_RESTRICTION + 3 * roles - 2);
+    ask(&draft, 1500000);
+}
+
+static void roles(void)
+{
+    role_chain_up(4, 3, 0, 10000000);
+    role_chain_up(4, 4, 1, 10000000);
+    role_chain_up(4, 16, 2, 10000000);
+    role_chain_up(5, 5, 0, 10000000);
+    for (u32 height = 3; height < 7; height++) {
+        role_towers(height, 2 + height, 3000000);
+        role_towers(height, 16, 3000000);
+    }
+    for (u32 i = 0; i < 12; i++) {
+        role_lines(1 + i % 3, 4 + i % 4, 1 + i % 3, 62);
+    }
+    role_torn(1, 6, 17);
+    role_torn(2, 3, 6);
+    role_torn(3, 5, 2);
+    role_ring(2, 4, 5);
+    role_ring(2, 8, 6);
+}
+
 /* ---- bounds */
 
 /* 12 variables, 24 atoms and 64 lines, most of them of 8 left entries: a tower of
    twelve variables on r.top, two restrictions on whose highest ones are compared
    down to the bottom. Solved with N = 4108, like the case tower-12. */
-static void bounds(void)
+static void ask_bounds(struct draft draft)
 {
-    struct draft draft;
     u8 left = CODE_RESTRICTION + 12;
-    draft_start(&draft, 0, 16, 12);
     add_row(&draft, 0, CODE_TOP);
     for (u32 x = 0; x < 12; x++) {
         add_row(&draft, 0, variable(x));
@@ -247,6 +376,25 @@ static void bounds(void)
     add_random_rows(&chance, &draft, 24 - draft.e);
     add_easy_lines(&chance, &draft, 64 - draft.m, 8, 8);
     ask(&draft, 0xFFFFFFFF);
+}
+
+static void bounds(void)
+{
+    struct draft draft;
+    draft_start(&draft, 0, 16, 12);
+    ask_bounds(draft);
+}
+
+/* The same with 32 role rows, of which 15 are a chain. */
+static void role_bounds(void)
+{
+    struct draft draft;
+    draft_start(&draft, 0, 16, 12);
+    chain_of_roles(&draft);
+    while (draft.q < 32) {
+        add_role_row(&draft, 0, draft.q % 16);
+    }
+    ask_bounds(draft);
 }
 
 /* ---- */
@@ -260,6 +408,7 @@ struct family {
 static const struct family families[] = {
     { "chains", 1, chains },       { "constants", 2, constants }, { "variables", 3, variables },
     { "lines", 4, lines },         { "none", 5, none },           { "bounds", 6, bounds },
+    { "roles", 7, roles },         { "role-bounds", 8, role_bounds },
 };
 
 int main(int words, char **word)

@@ -676,8 +676,28 @@ static u32 ask_easy(struct draft *draft, u32 m, u8 *bytes)
     return length;
 }
 
+/* A chain of steps over all of so many roles, in any order: a restriction of its
+   first role is below one of its last by all of them, and not the other way. */
+static void ask_role_chain(u32 r)
+{
+    u8 bytes[DRAFT_BYTES], left[2] = { CODE_RESTRICTION, CODE_RESTRICTION + 1 };
+    struct draft draft;
+    u32 first = below_bound(&chance, r), by = percent(&chance, 50) ? 1 : r - 1;
+    for (u32 back = 0; back < 2; back++) {
+        draft_start(&draft, 0, r, 0);
+        for (u32 i = 0; i + 1 < r; i++) {
+            add_role_row(&draft, (first + by * i) % r, (first + by * (i + 1)) % r);
+        }
+        shuffle_role_rows(&chance, &draft);
+        add_row(&draft, first, CODE_TOP);
+        add_row(&draft, (first + by * (r - 1)) % r, CODE_TOP);
+        add_line(&draft, 1, left + back, left[1 - back]);
+        ask_solve_with(bytes, write_draft(&draft, bytes), 1, 0);
+    }
+}
+
 /* Role rows in a chain of four steps, with one of the others that closes it, stands
-   twice, or leads from a role to itself. */
+   twice, or leads from a role to itself; and long chains. */
 static void group_role_shapes(void)
 {
     static const struct draft_role_row more[] = { { 4, 0 }, { 0, 1 }, { 2, 2 } };
@@ -691,6 +711,8 @@ static void group_role_shapes(void)
         add_role_row(&draft, more[i].narrower, more[i].wider);
         ask_easy(&draft, 2, bytes);
     }
+    ask_role_chain(16);
+    ask_role_chain(between(&chance, 3, 16));
 }
 
 /* A table with so many role rows, whole and cut after their count. */

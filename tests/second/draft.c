@@ -122,7 +122,7 @@ static void add_any_role_rows(struct chance *chance, struct draft *draft, u32 ro
     }
 }
 
-static void shuffle_role_rows(struct chance *chance, struct draft *draft)
+void shuffle_role_rows(struct chance *chance, struct draft *draft)
 {
     for (u32 i = draft->q; i-- > 1;) {
         u32 other = below_bound(chance, i + 1);

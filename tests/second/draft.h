@@ -75,6 +75,9 @@ u32 random_filler(struct chance *chance, const struct draft *draft);
 u32 random_entry(struct chance *chance, const struct draft *draft);
 int has_entries(const struct draft *draft);
 
+/* Puts the role rows in any order. */
+void shuffle_role_rows(struct chance *chance, struct draft *draft);
+
 /* Makes the draft one of version 2, with role rows of a shape by chance: none, a
    chain or a circle over all roles, any rows, or as many as there may be. Some
    stand twice, and some lead from a role to itself. */

@@ -97,7 +97,7 @@ static const char *const other_names[OTHERS] = {
    refusal is named. */
 enum shape {
     NO_ROLE_ROWS, MOST_ROLE_ROWS, ROLE_ROW_TWICE, ROLE_ROW_TO_ITSELF, ROLE_CIRCLE, ROLE_CHAIN_2,
-    ROLE_CHAIN_3, COUNT_33, COUNT_33_AT_END, COUNTS_BEFORE_IT, LINES_BEFORE_IT, NO_ROLES,
+    ROLE_CHAIN_3, ROLE_CHAIN_15, COUNT_33, COUNT_33_AT_END, COUNTS_BEFORE_IT, LINES_BEFORE_IT, NO_ROLES,
     ROLE_BEFORE_END, SHAPES
 };
 
@@ -109,6 +109,7 @@ static const char *const shape_names[SHAPES] = {
     "a circle of two roles or more",
     "a role that reaches another in two steps and no fewer",
     "a role that reaches another in three steps or more, and no fewer",
+    "a role that reaches another in fifteen steps and no fewer",
     "4 for q 33",
     "4 for q 33, and no byte after it",
     "4 for m, and q over its bound",
@@ -247,7 +248,7 @@ static u32 steps_between(const u8 *table, u32 one, u32 other)
     return 0;
 }
 
-/* Whether two role rows, or the same one, have these roles. */
+/* Whether a role row stands before this one, too. */
 static int role_row_again(const u8 *table, u32 i)
 {
     for (u32 k = 0; k < i; k++) {
@@ -281,6 +282,7 @@ static void count_shapes(const u8 *table)
     of_shape[ROLE_CIRCLE] += circle;
     of_shape[ROLE_CHAIN_2] += two;
     of_shape[ROLE_CHAIN_3] += longest >= 3;
+    of_shape[ROLE_CHAIN_15] += longest == 15;
 }
 
 /* A table of version 2 that is answered with 0 or 8. */

@@ -1,13 +1,13 @@
 /* families NAME: writes a stream of solve questions on standard output, made
    from fixed seeds: tables that need long walks.
 
-     chains     variables that depend on each other in chains and towers
-     constants  many constants, one or two variables
-     variables  many variables, few atoms
-     lines      many lines with long left sides
-     none       no solution, found only at the end of a long walk
-     roles      chains of role rows, without which most answers are others
-     bounds     one table at every bound, for the measure of the stack
+     chains       variables that depend on each other in chains and towers
+     constants    many constants, one or two variables
+     variables    many variables, few atoms
+     lines        many lines with long left sides
+     none         no solution, found only at the end of a long walk
+     roles        chains of role rows, without which most answers are others
+     bounds       one table at every bound, for the measure of the stack
      role-bounds  the same with the most role rows
 
    families NAME short: the same tables with small budgets. */
@@ -241,8 +241,7 @@ static void chain_of_roles(struct draft *draft)
 }
 
 /* X0 below s X1, X1 below s X2, and so on, where s is the widest role; the last
-   below the constant. There are rows of narrower roles, and none of s on the
-   variables that a set can take before them. */
+   below the constant. A row of a narrower role comes before each row of s. */
 static void role_chain_up(u32 v, u32 roles, u32 more_constants, u32 budget)
 {
     struct draft draft;
@@ -312,9 +311,9 @@ static void role_ring(u32 v, u32 roles, u32 more_constants)
     ask(&draft, 0xFFFFFFFF);
 }
 
-/* For each of three fillers a row of every role; lines in which one entry of eight is
-   below the right one, by its role, and that are tested at each full node; and after
-   them two that do not hold by themselves. */
+/* For each of three fillers a row of every role; lines that are tested at each full
+   node and hold by the role of one entry; and after them two that do not hold by
+   themselves. */
 static void role_lines(u32 c, u32 roles, u32 v, u32 lines)
 {
     static const u8 filler[3] = { CODE_TOP, CODE_VARIABLE, CODE_CONSTANT };

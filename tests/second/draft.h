@@ -79,8 +79,8 @@ int has_entries(const struct draft *draft);
 void shuffle_role_rows(struct chance *chance, struct draft *draft);
 
 /* Makes the draft one of version 2, with role rows of a shape by chance: none, a
-   chain or a circle over all roles, any rows, or as many as there may be. Some
-   stand twice, and some lead from a role to itself. */
+   chain or a circle over all roles, any rows, or as many as a readable table may
+   have. Some stand twice, and some lead from a role to itself. */
 void add_random_role_rows(struct chance *chance, struct draft *draft);
 
 void add_random_rows(struct chance *chance, struct draft *draft, u32 rows);

@@ -93,8 +93,8 @@ static const char *const other_names[OTHERS] = {
     "line: a table that is refused",
 };
 
-/* Shapes of version 2, of tables that are solved or have no solution but where a
-   refusal is named. */
+/* Shapes of version 2: of tables that are solved or have no solution, and, where a
+   number is named, of tables that are refused with it. */
 enum shape {
     NO_ROLE_ROWS, MOST_ROLE_ROWS, ROLE_ROW_TWICE, ROLE_ROW_TO_ITSELF, ROLE_CIRCLE, ROLE_CHAIN_2,
     ROLE_CHAIN_3, ROLE_CHAIN_15, COUNT_33, COUNT_33_AT_END, COUNTS_BEFORE_IT, LINES_BEFORE_IT, NO_ROLES,

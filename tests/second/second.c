@@ -256,9 +256,8 @@ struct part second_line(const u8 *bytes, u32 length, u32 line)
 
 /* ---- Roles */
 
-/* `seen`, and all roles that a role reaches over the role rows in zero or more
-   steps, but for those that are reached only over roles of `seen`: bit t for
-   role t. */
+/* Adds to `seen` what a role reaches over the role rows in zero or more steps, bit t
+   for role t, by a search that does not go on from roles that are seen. */
 static u32 search(const struct table *table, u32 role, u32 seen)
 {
     seen |= 1u << role;

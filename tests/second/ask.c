@@ -419,7 +419,7 @@ static void ask_cut(const u8 *bytes, u32 length)
     ask_solve(bytes, length);
 }
 
-/* The same of the role rows, and of their count. */
+/* Each kind of refusal at the role rows, and at their count. */
 static void ask_role_places(const struct draft *draft, u8 *bytes, u32 length)
 {
     u32 row = 11 + 2 * below_bound(&chance, draft->q);
@@ -565,13 +565,13 @@ static void group_garbage(void)
 
 /* ---- Groups of questions: bounds and codes */
 
-/* A table with these counts, at a bound or over it, of either version. */
-static void ask_counts(u32 c, u32 r, u32 v, u32 e, u32 m, u32 p)
+/* A table of this version with these counts, at a bound or over it. */
+static void ask_counts(u32 version, u32 c, u32 r, u32 v, u32 e, u32 m, u32 p)
 {
     u8 bytes[DRAFT_BYTES];
     struct draft draft;
     draft_start(&draft, c, r, v);
-    if (percent(&chance, 50)) {
+    if (version == 2) {
         add_random_role_rows(&chance, &draft);
     }
     add_random_rows(&chance, &draft, e);
@@ -586,33 +586,38 @@ static void ask_counts(u32 c, u32 r, u32 v, u32 e, u32 m, u32 p)
 }
 
 /* Each bound, and one over it; and several bounds broken at once. */
-static void group_bounds(void)
+static void ask_bounds(u32 version)
 {
     u32 some = below_bound(&chance, 25);
-    ask_counts(1, 1, 1, 1, 1, 8);
-    ask_counts(1, 1, 1, 1, 2, 9);
-    ask_counts(24, 0, 1, 0, 1, 2);
-    ask_counts(24, 1, 1, 1, 1, 2);
-    ask_counts(25, 0, 0, 0, 1, 2);
-    ask_counts(0, 1, 1, 24, 1, 2);
-    ask_counts(0, 1, 1, 25, 1, 2);
-    ask_counts(some, 3, 1, 24 - some, 2, 3);
-    ask_counts(some, 3, 1, 25 - some, 2, 3);
-    ask_counts(255, 1, 0, 1, 0, 1);
-    ask_counts(between(&chance, 26, 255), 1, 1, below_bound(&chance, 20), 1, 1);
-    ask_counts(2, 1, 2, 1, 64, between(&chance, 1, 8));
-    ask_counts(2, 1, 2, 1, 65, 1);
-    ask_counts(1, 16, 1, 3, 1, 1);
-    ask_counts(1, 17, 1, 3, 1, 1);
-    ask_counts(1, 1, 12, 2, 3, 2);
-    ask_counts(1, 1, 13, 2, 3, 2);
-    ask_counts(25, 17, 13, 3, 65, 1);
-    ask_counts(25, 16, 13, 3, 65, 1);
-    ask_counts(25, 16, 12, 3, 65, 1);
-    ask_counts(20, 16, 12, 4, 65, 1);
-    ask_counts(0, 0, below_bound(&chance, 13), 0, 0, 1);
-    ask_counts(0, 0, 0, 0, 0, 1);
-    ask_counts(0, 16, 12, 24, 64, 8);
+    ask_counts(version, 1, 1, 1, 1, 1, 8);
+    ask_counts(version, 1, 1, 1, 1, 2, 9);
+    ask_counts(version, 24, 0, 1, 0, 1, 2);
+    ask_counts(version, 24, 1, 1, 1, 1, 2);
+    ask_counts(version, 25, 0, 0, 0, 1, 2);
+    ask_counts(version, 0, 1, 1, 24, 1, 2);
+    ask_counts(version, 0, 1, 1, 25, 1, 2);
+    ask_counts(version, some, 3, 1, 24 - some, 2, 3);
+    ask_counts(version, some, 3, 1, 25 - some, 2, 3);
+    ask_counts(version, 255, 1, 0, 1, 0, 1);
+    ask_counts(version, between(&chance, 26, 255), 1, 1, below_bound(&chance, 20), 1, 1);
+    ask_counts(version, 2, 1, 2, 1, 64, between(&chance, 1, 8));
+    ask_counts(version, 2, 1, 2, 1, 65, 1);
+    ask_counts(version, 1, 16, 1, 3, 1, 1);
+    ask_counts(version, 1, 17, 1, 3, 1, 1);
+    ask_counts(version, 1, 1, 12, 2, 3, 2);
+    ask_counts(version, 1, 1, 13, 2, 3, 2);
+    ask_counts(version, 25, 17, 13, 3, 65, 1);
+    ask_counts(version, 25, 16, 13, 3, 65, 1);
+    ask_counts(version, 25, 16, 12, 3, 65, 1);
+    ask_counts(version, 20, 16, 12, 4, 65, 1);
+    ask_counts(version, 0, 0, below_bound(&chance, 13), 0, 0, 1);
+    ask_counts(version, 0, 0, 0, 0, 0, 1);
+    ask_counts(version, 0, 16, 12, 24, 64, 8);
+}
+
+static void group_bounds(void)
+{
+    ask_bounds(either_version());
 }
 
 /* Every value of one byte of a table. */
@@ -811,10 +816,10 @@ static void ask_all(u64 count)
         ask_budgets(version, NONE);
         ask_output_bounds(version);
         ask_lines(version);
+        ask_bounds(version);
     }
     group_outputs();
     group_circles();
-    group_bounds();
     group_mark();
     group_versions();
     group_role_counts();

@@ -5,8 +5,8 @@ ghost use Rattle.table.specs.Bytes.{enoughLength};
 use bounds::MAX_ATOMS;
 use bounds::MAX_LEFT;
 use bounds::MAX_LINES;
-use bounds::MAX_ROLES;
 use bounds::MAX_ROLE_ROWS;
+use bounds::MAX_ROLES;
 use bounds::MAX_VARIABLES;
 use libc::STDOUT_FILENO;
 

@@ -18,8 +18,8 @@ use answer::Answer;
 use bounds::MAX_ATOMS;
 use bounds::MAX_LEFT;
 use bounds::MAX_LINES;
-use bounds::MAX_ROLES;
 use bounds::MAX_ROLE_ROWS;
+use bounds::MAX_ROLES;
 use bounds::MAX_VARIABLES;
 
 // The bytes that hold the version and the counts, and the length of a header without its count of role rows.

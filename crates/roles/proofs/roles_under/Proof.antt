@@ -1,9 +1,8 @@
 -- `roles::roles_under` meets its contract. The invariant: the masks say the order over the role rows from row k on; the measure is k.
-use mathlib.Core.Path.{subst, sym, _∙_}
-use Prim.Native.Nat.{ℕ, _-_, _≤_, _<_}
+use mathlib.Core.Path.{_∙_}
+use Prim.Native.Nat.{_-_, _≤_}
 use native.Mathlib.Omega.{arith}
 use borrow.Author.Needs.{needs}
-use Rattle.bounds.specs.Bounds.{maxRoles}
 use Rattle.table.specs.Reading.{tableOf}
 use Rattle.table.specs.LayoutLaws.{layout}
 use Rattle.roles.specs.Under.{UnderFrom}
@@ -29,10 +28,10 @@ roles-under-spec =
     (λ c κs. search needs)
     (λ c κs.
     let low = row-low _ (c .before .before .before .before .before .before .before .before .pre .0) (c .before .before .before .before .before .loop .k - 1) (omega arith) in
-    (subst (λ (i : ℕ). i < maxRoles) (sym (c .before .before .wide .ensures ∙ c .before .before .before .narrower-of .ensures)) (low .0), subst (λ (i : ℕ). i < maxRoles) (sym (c .wide2 .ensures ∙ c .before .wider-of .ensures)) (low .1)))
+    (omega (arith, low .0, low .1, c .before .before .wide .ensures, c .before .before .before .narrower-of .ensures, c .wide2 .ensures, c .before .wider-of .ensures), omega (arith, low .0, low .1, c .before .before .wide .ensures, c .before .before .before .narrower-of .ensures, c .wide2 .ensures, c .before .wider-of .ensures)))
     (λ c. omega arith)
     (λ c. (
-    omega arith,
-    under-turn _ (c .before .before .before .before .before .before .before .before .before .pre .0) _ (omega arith) (omega arith) _ _ _ _ (c .before .before .before .wide .ensures ∙ c .before .before .before .before .narrower-of .ensures) (c .before .wide2 .ensures ∙ c .before .before .wider-of .ensures) (c .before .before .before .before .before .before .loop .inv .1) (c .widened .ensures),
+      omega arith,
+      under-turn _ (c .before .before .before .before .before .before .before .before .before .pre .0) _ (omega arith) (omega arith) _ _ _ _ (c .before .before .before .wide .ensures ∙ c .before .before .before .before .narrower-of .ensures) (c .before .wide2 .ensures ∙ c .before .before .wider-of .ensures) (c .before .before .before .before .before .before .loop .inv .1) (c .widened .ensures),
     ))
     (λ c. under-whole _ _ _ (omega arith) (c .before .loop .inv .1)))

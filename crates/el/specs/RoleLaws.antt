@@ -22,7 +22,7 @@ use Rattle.el.specs.OrderLaws.{sameRole-refl, sameRole-trans}
 pub reachesRole-refl : (rows : List RoleRow) (r : ℕ) → T (reachesRole rows r r)
 unfolding reachesRole
 reachesRole-refl [] r = sameRole-refl r
-reachesRole-refl (row ∷ rows) r = or-left (reachesRole rows r r) (reachesRole rows r (row .narrower) && reachesRole rows (row .wider) r) (reachesRole-refl rows r)
+reachesRole-refl (row ∷ rows) r = or-left (reachesRole rows r r) _ (reachesRole-refl rows r)
 
 -- one row more keeps a relation transitive: a way takes the row not at all or once, and what lies between two takings is left out
 module _ (way : ℕ → ℕ → Bool) (along : (r s u : ℕ) → T (way r s) → T (way s u) → T (way r u)) (n w : ℕ) where

@@ -6,7 +6,7 @@
 --   below C D     == C is below D
 --
 -- The role relation `under` is open: `under r s` says that a restriction with role r can lie below one with role s.
--- Version 1 puts equality of numbers there, `sameRole`.
+-- A table puts the order of its roles there; without role rows that is equality of numbers, `sameRole`.
 use mathlib.Core.Bool.{Bool, true, false, _&&_, _||_}
 use Prim.Native.Nat.{ℕ}
 use lib.Dec.{eqb}

@@ -272,7 +272,7 @@ module _ (under : ℕ → ℕ → Bool) where
   below-depth C (some s D) t = some-depth s (depth D) (λ E. below under E D) (λ E e. below-depth E D e) C t
 
 ----------------------------------------------------------------------------------------------------
--- Version 1's role relation
+-- Equality of roles
 
 pub sameRole-refl : (r : ℕ) → T (sameRole r r)
 unfolding sameRole

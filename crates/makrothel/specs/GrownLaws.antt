@@ -18,7 +18,7 @@ use lib.Seq.{take-at, drop-at, drop-drop}
 use Rattle.el.specs.Test.{everyOf}
 use Rattle.el.specs.TestLaws.{and-left, and-right}
 use Rattle.el.specs.Roles.{RoleRow}
-use Rattle.el.specs.Table.{Filler, constantF, variableF, Entry, constant, restriction, variable, Row, Line, Table, roleRowDeclared, rowDeclared, entryDeclared, lineDeclared}
+use Rattle.el.specs.Table.{Filler, constantF, variableF, Entry, constant, restriction, variable, Line, Table, roleRowDeclared, rowDeclared, entryDeclared, lineDeclared}
 use Rattle.el.specs.TableLaws.{role-rows-declared, rows-declared, lines-declared}
 use Rattle.el.specs.Growth.{Grows}
 use Rattle.table.specs.declared.Kind.{Kind}

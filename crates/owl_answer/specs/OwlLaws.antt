@@ -18,8 +18,8 @@ use lib.ListN.{length, take, drop}
 use lib.Seq.{take-append-seam}
 use Rattle.bounds.specs.Bounds.{bounds, maxLeft, setBytes}
 use Rattle.el.specs.Test.{everyOf}
-use Rattle.el.specs.TestLaws.{and-make, and-left, and-right, everyOf-both}
-use Rattle.el.specs.Table.{Line, Table, declared, lineDeclared, rowDeclared, roleOrder}
+use Rattle.el.specs.TestLaws.{and-make, everyOf-both}
+use Rattle.el.specs.Table.{Line, Table, declared, lineDeclared, roleOrder}
 use Rattle.el.specs.RoleLaws.{roleOrder-refl, roleOrder-trans}
 use Rattle.el.specs.TableLaws.{role-rows-declared, rows-declared, lines-declared}
 use Rattle.el.specs.Assignment.{Assignment, Solves, induced}

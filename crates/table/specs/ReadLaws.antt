@@ -7,7 +7,7 @@
 --   pair-all, role-row-all, row-all, line-all, header-all, body-all == what is there is read
 --   code-read, pair-read, role-row-read, row-read, line-read, counts-read, header-read, body-read, readable-read == what was read is there
 --   header-long                     == how long a header is
-use mathlib.Core.Path.{_≡_, refl, sym, ap, ap₂, subst, _∙_}
+use mathlib.Core.Path.{_≡_, refl, sym, ap, subst, _∙_}
 use mathlib.Core.Bool.{Bool, true, false, not, cond}
 use mathlib.Core.List.{List}
 use mathlib.Core.Option.{Option, some}

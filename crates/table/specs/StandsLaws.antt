@@ -12,7 +12,7 @@ use mathlib.Core.Option.{Option, some}
 use Prim.Native.Nat.{ℕ, zero, suc, _+_, _-_, _≤_, _<_}
 use native.Mathlib.Omega.{arith}
 use native.Mathlib.Numerals.{add-one}
-use lib.Dec.{T, eqb, leb, ltb, eqb→eq, ltb→lt, leb→le, le→leb}
+use lib.Dec.{T, eqb, leb, ltb, eqb→eq, leb→le, le→leb}
 use lib.ListN.{length, drop, getD, length-drop, length-append}
 use lib.Seq.{drop-drop, drop-cons, getD-drop}
 use Rattle.el.specs.Test.{everyOf}

@@ -4,10 +4,11 @@
 --   begun-length   == bytes that are right so far are no longer than the longest table
 --   longest        == "The longest readable table has 698 bytes.", and 763 in version 2
 --   place-fits     == so where a line begins is no larger
---   longest-one, longest-two == in each version one has them
+--   longest-reached == in each version one has them; longest-lengths, in numerals
 --   first-bytes    == THE FIRST 764 BYTES OF AN INPUT ARE READ AS THE WHOLE INPUT IS
 use mathlib.Core.Path.{_≡_, refl, sym, ap, subst, _∙_}
 use mathlib.Core.Bool.{Bool, true, false, cond}
+use mathlib.Core.Logic.{_⊎_, inl, inr}
 use mathlib.Core.List.{List, [], _∷_, _++_, flatMap}
 use Prim.Native.Nat.{ℕ, suc, _+_, _*_, _-_, _≤_, _<_}
 use native.Mathlib.Omega.{arith}
@@ -19,11 +20,11 @@ use Rattle.el.specs.Test.{everyOf}
 use Rattle.el.specs.TestLaws.{and-left, and-right}
 use Rattle.el.specs.Roles.{RoleRow}
 use Rattle.el.specs.Table.{Entry, Row, Line, Table, lineDeclared}
-use Rattle.bounds.specs.Bounds.{maxAtoms, maxLines, maxLeft, maxRoleRows}
+use Rattle.bounds.specs.Bounds.{bounds, maxAtoms, maxLines, maxLeft, maxRoleRows}
 use Rattle.answer.specs.declared.Answer.{Answer}
 use Rattle.table.specs.declared.Header.{Header}
 use Rattle.table.specs.Reading.{byteAt, versionPlace, constantsPlace, rolesPlace, variablesPlace, restrictionsPlace, linesPlace, headerLength, roleRowsPlace, hasRoleRows, headerEnd, roleCount, headerOf, marked, versionKnown, tableWith, Reading, refusal, readable, reading, isReadable}
-use Rattle.table.specs.Bytes.{writtenRoleCount, writtenHeader, writtenRoleRow, writtenRow, writtenEntry, writtenLine, bytesWith, countsOf, bytesOf, IsVersion, version-one, version-two, lineRight, Right, Fits, longestLine, longestFront, longestLength, enoughLength, longestTable}
+use Rattle.table.specs.Bytes.{writtenRoleCount, writtenHeader, writtenRoleRow, writtenRow, writtenEntry, writtenLine, bytesWith, countsOf, bytesOf, IsVersion, version-one, version-two, Within, lineRight, Right, Fits, longestLine, longestFront, longestLength, enoughLength, longestTable}
 use Rattle.table.specs.Layout.{lineStart}
 use Rattle.table.specs.LayoutLaws.{readable-header, line-inside}
 use Rattle.table.specs.ReadLaws.{header-long}
@@ -147,34 +148,24 @@ longest s ok = go (reading s) refl ok
 pub place-fits : (s : List ℕ) → T (isReadable (reading s)) → (n at : ℕ) → n < headerOf s .m → at ≡ lineStart s n → at < enoughLength
 place-fits s ok n at h e = let i = line-inside s ok n at h e in let l = longest s ok in let k = front-enough (headerOf s .version) in omega arith
 
--- 698 and 763
-pub longest-one : Fits 1 (longestTable 1) × (length (bytesOf 1 (longestTable 1)) ≡ longestLength 1) × (longestLength 1 ≡ 698)
+-- as many bytes as the longest may have, by the version
+pub longest-reached : (n : ℕ) → (n ≡ 1) ⊎ (n ≡ 2) → Fits n (longestTable n) × (length (bytesOf n (longestTable n)) ≡ longestLength n)
 unfolding longestTable longestFront hasRoleRows Fits bytesOf bytesWith countsOf writtenRoleCount writtenHeader writtenRoleRow writtenRow writtenLine writtenEntry flatMap everyOf lineRight
-longest-one = (
-  record {
-    version = version-one refl refl;
-    counts = record { few-roles = omega arith; few-variables = omega arith; few-atoms = omega arith; few-lines = omega arith; few-role-rows = omega arith };
-    role-rows-right = tt;
-    rows-right = tt;
-    lines-right = tt;
-  },
-  refl,
-  refl,
-)
+longest-reached n of = go of
+  where
+    Reached : ℕ → Type 0
+    Reached k = Fits k (longestTable k) × (length (bytesOf k (longestTable k)) ≡ longestLength k)
 
-pub longest-two : Fits 2 (longestTable 2) × (length (bytesOf 2 (longestTable 2)) ≡ longestLength 2) × (longestLength 2 ≡ 763)
-unfolding longestTable longestFront hasRoleRows Fits bytesOf bytesWith countsOf writtenRoleCount writtenHeader writtenRoleRow writtenRow writtenLine writtenEntry flatMap everyOf lineRight
-longest-two = (
-  record {
-    version = version-two refl;
-    counts = record { few-roles = omega arith; few-variables = omega arith; few-atoms = omega arith; few-lines = omega arith; few-role-rows = omega arith };
-    role-rows-right = tt;
-    rows-right = tt;
-    lines-right = tt;
-  },
-  refl,
-  refl,
-)
+    within : (k : ℕ) → (q : ℕ) → q ≤ maxRoleRows → Within bounds (record { version = k; c = 0; r = 1; v = 0; e = maxAtoms; m = maxLines; q = q })
+    within k q w = record { few-roles = omega arith; few-variables = omega arith; few-atoms = omega arith; few-lines = omega arith; few-role-rows = w }
+
+    go : (n ≡ 1) ⊎ (n ≡ 2) → Reached n
+    go (inl e) = subst Reached (sym e) (record { version = version-one refl refl; counts = within 1 0 (omega arith); role-rows-right = tt; rows-right = tt; lines-right = tt }, refl)
+    go (inr e) = subst Reached (sym e) (record { version = version-two refl; counts = within 2 maxRoleRows (omega arith); role-rows-right = tt; rows-right = tt; lines-right = tt }, refl)
+
+pub longest-lengths : (longestLength 1 ≡ 698) × (longestLength 2 ≡ 763)
+unfolding longestFront hasRoleRows
+longest-lengths = (refl, refl)
 
 ------------------------------------------------------------------ a longer input
 

@@ -2,6 +2,7 @@
 --
 --   deeper-left, deeper-other, deeper-none, deeper-right == the code's cases
 --   tokens-fuel, rest-start, rest-end, rest-turn == the tokens from a byte on
+--   jumps-start, jumps-turn, jumps-first == bytes behind some tokens, token by token
 --   skip-on, skip-stop        == the invariant of the loop, token by token
 --   skip-class, skip-classes  == brackets in a class expression are closed in it
 --   ends-name, ends-word      == where it ends
@@ -19,7 +20,7 @@ use Rattle.owl.specs.Written.{Token, text, kind, ‹ObjectIntersectionOf›, �
 use Rattle.owl.specs.Grammar.{isName}
 use Rattle.owl.specs.TextLaws.{kind-at}
 use Rattle.owl_name.proofs.RestLaws.{goes, AtToken}
-use Rattle.owl_class.specs.Ends.{restTokens, deeper, skip, EndsAt}
+use Rattle.owl_class.specs.Ends.{restTokens, deeper, skip, JumpsBy, Jumps, EndsAt}
 
 ----------------------------------------------------------------------------------------------------
 -- Depth
@@ -89,6 +90,23 @@ rest-turn s at h k =
     let u : length s < endAt s at + (length s - at) = omega arith in
     let v : length s < endAt s at + suc (length s - endAt s at) = omega arith in
     tokens-turn s (length s - at) at e ∙ ap (λ (l : List Token). tokenAt s at ∷ l) (tokens-fuel s (length s - at) (suc (length s - endAt s at)) (endAt s at) far u v)
+
+pub jumps-start : (s : List ℕ) (at : ℕ) → Jumps s at at
+unfolding Jumps
+jumps-start s at = (zero, refl)
+
+pub jumps-turn : (s : List ℕ) (from at k p e : ℕ) → AtToken s at k p e → (k ≡ 0 → ⊥) → Jumps s from at → Jumps s from e
+unfolding Jumps
+jumps-turn s from at k p e t z j = (suc (j .0), (at, j .1, (λ y. z (t .0 ∙ y)), t .2))
+
+-- a token before them
+before-by : (s : List ℕ) (at r i : ℕ) → (kindAt s at ≡ 0 → ⊥) → JumpsBy s (endAt s at) i r → JumpsBy s at (suc i) r
+before-by s at r zero z j = (at, refl, z, j)
+before-by s at r (suc i) z j = (j .0, before-by s at (j .0) i z (j .1), j .2, j .3)
+
+pub jumps-first : (s : List ℕ) (at k p e r : ℕ) → AtToken s at k p e → (k ≡ 0 → ⊥) → Jumps s e r → Jumps s at r
+unfolding Jumps
+jumps-first s at k p e r t z j = (suc (j .0), before-by s at r (j .0) (λ y. z (t .0 ∙ y)) (subst (λ (x : ℕ). JumpsBy s x (j .0) r) (t .2) (j .1)))
 
 ----------------------------------------------------------------------------------------------------
 -- Skipping, token by token
@@ -203,20 +221,25 @@ not-name k j e d f = subst T (sym d ∙ ap isName e ∙ f) tt
 
 pub ends-name : (s : List ℕ) (at k p e : ℕ) → AtToken s at k p e → at ≤ length s → isName k ≡ true → EndsAt s at e
 unfolding EndsAt isName
-ends-name s at k p e t h d (named n) rest c = sym (rest-first s at k p e t h .1 (λ z. not-name k 0 z d refl)) ∙ ap behind c
+ends-name s at k p e t h d (named n) rest c =
+    let z : k ≡ 0 → ⊥ = λ z. not-name k 0 z d refl in
+    (sym (rest-first s at k p e t h .1 z) ∙ ap behind c, jumps-turn s at at k p e t z (jumps-start s at))
 ends-name s at k p e t h d (intersectionOf C Cs) rest c = absurd (not-name k 11 (begins s at k p e 11 (written (intersectionOf C Cs) rest) t h c refl) d refl)
 ends-name s at k p e t h d (someValuesFrom r C) rest c = absurd (not-name k 12 (begins s at k p e 12 (written (someValuesFrom r C) rest) t h c refl) d refl)
 
-pub ends-word : (s : List ℕ) (at k p e r : ℕ) → AtToken s at k p e → at ≤ length s → isName k ≡ false → restTokens s r ≡ skip 0 (restTokens s e) → EndsAt s at r
+pub ends-word : (s : List ℕ) (at k p e r : ℕ) → AtToken s at k p e → at ≤ length s → isName k ≡ false → restTokens s r ≡ skip 0 (restTokens s e) → Jumps s e r → EndsAt s at r
 unfolding EndsAt isName
-ends-word s at k p e r t h d f (named (short w)) rest c = absurd (not-name 13 k (sym (begins s at k p e 13 (text 13 w ∷ rest) t h c refl)) refl d)
-ends-word s at k p e r t h d f (named (full w)) rest c = absurd (not-name 14 k (sym (begins s at k p e 14 (text 14 w ∷ rest) t h c refl)) refl d)
-ends-word s at k p e r t h d f (intersectionOf C Cs) rest c =
+ends-word s at k p e r t h d f y (named (short w)) rest c = absurd (not-name 13 k (sym (begins s at k p e 13 (text 13 w ∷ rest) t h c refl)) refl d)
+ends-word s at k p e r t h d f y (named (full w)) rest c = absurd (not-name 14 k (sym (begins s at k p e 14 (text 14 w ∷ rest) t h c refl)) refl d)
+ends-word s at k p e r t h d f y (intersectionOf C Cs) rest c =
     let j : k ≡ 11 = begins s at k p e 11 (written (intersectionOf C Cs) rest) t h c refl in
-    f ∙ ap (skip 0) (sym (rest-first s at k p e t h .1 (λ z. omega arith)) ∙ ap behind c) ∙ both-closed C Cs rest
-ends-word s at k p e r t h d f (someValuesFrom (short w) C) rest c =
+    let z : k ≡ 0 → ⊥ = λ z. omega arith in
+    (f ∙ ap (skip 0) (sym (rest-first s at k p e t h .1 z) ∙ ap behind c) ∙ both-closed C Cs rest, jumps-first s at k p e r t z y)
+ends-word s at k p e r t h d f y (someValuesFrom (short w) C) rest c =
     let j : k ≡ 12 = begins s at k p e 12 (written (someValuesFrom (short w) C) rest) t h c refl in
-    f ∙ ap (skip 0) (sym (rest-first s at k p e t h .1 (λ z. omega arith)) ∙ ap behind c) ∙ some-closed (text 13 w) C rest (λ z. omega arith) (λ z. omega arith)
-ends-word s at k p e r t h d f (someValuesFrom (full w) C) rest c =
+    let z : k ≡ 0 → ⊥ = λ z. omega arith in
+    (f ∙ ap (skip 0) (sym (rest-first s at k p e t h .1 z) ∙ ap behind c) ∙ some-closed (text 13 w) C rest (λ z. omega arith) (λ z. omega arith), jumps-first s at k p e r t z y)
+ends-word s at k p e r t h d f y (someValuesFrom (full w) C) rest c =
     let j : k ≡ 12 = begins s at k p e 12 (written (someValuesFrom (full w) C) rest) t h c refl in
-    f ∙ ap (skip 0) (sym (rest-first s at k p e t h .1 (λ z. omega arith)) ∙ ap behind c) ∙ some-closed (text 14 w) C rest (λ z. omega arith) (λ z. omega arith)
+    let z : k ≡ 0 → ⊥ = λ z. omega arith in
+    (f ∙ ap (skip 0) (sym (rest-first s at k p e t h .1 z) ∙ ap behind c) ∙ some-closed (text 14 w) C rest (λ z. omega arith) (λ z. omega arith), jumps-first s at k p e r t z y)

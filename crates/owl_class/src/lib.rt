@@ -10,7 +10,7 @@ ghost use lib.ListN.{length};
 ghost use Rattle.owl.specs.Mention.{nameBy};
 ghost use Rattle.owl.specs.Conjunct.{endsHere, outerAfter, innerAfter};
 ghost use Rattle.owl_name.specs.Declared.{oneIf};
-ghost use Rattle.owl_class.specs.Ends.{restTokens, deeper, skip, EndsAt, isConjunct, HasConjuncts};
+ghost use Rattle.owl_class.specs.Ends.{restTokens, deeper, skip, Jumps, EndsAt, isConjunct, HasConjuncts};
 ghost use Rattle.owl_class.specs.Conjuncts.{ConjunctIs, EntryIs};
 
 // Where a conjunct is.
@@ -43,9 +43,9 @@ fn deeper(k: u8, depth: usize) -> usize
 }
 
 // Where the brackets that begin with the next token are closed.
-fn closed(s: &[u8], from: usize) -> usize
+pub fn closed(s: &[u8], from: usize) -> usize
     requires { ⌜ from ≤ length (now s) ⌝ }
-    ensures { λ r. ⌜ (restTokens (now (s .entry)) r ≡ skip 0 (restTokens (now (s .entry)) from)) × (r ≤ length (now (s .entry))) ⌝ }
+    ensures { λ r. ⌜ (restTokens (now (s .entry)) r ≡ skip 0 (restTokens (now (s .entry)) from)) × (r ≤ length (now (s .entry))) × Jumps (now (s .entry)) from r ⌝ }
 {
     let mut at = from;
     let mut depth = 0;

@@ -15,7 +15,7 @@ closed-requires : tie.Need-closed-requires
 closed-requires c κs = c .before .before .token-at .ensures .3
 
 returns-2 : tie.Need-returns-2
-returns-2 c = (laws.ends-word _ _ _ _ _ _ (c .before .before .before .token-at .ensures .0, c .before .before .before .token-at .ensures .1, c .before .before .before .token-at .ensures .2) (c .before .before .before .before .before .pre) (sym (c .before .before .is-name .ensures) ∙ c .before .if1 .left) (c .closed .ensures .0), c .closed .ensures .1)
+returns-2 c = (laws.ends-word _ _ _ _ _ _ (c .before .before .before .token-at .ensures .0, c .before .before .before .token-at .ensures .1, c .before .before .before .token-at .ensures .2) (c .before .before .before .before .before .pre) (sym (c .before .before .is-name .ensures) ∙ c .before .if1 .left) (c .closed .ensures .0) (c .closed .ensures .2), c .closed .ensures .1)
 
 pub class-end-spec : {M : Type 1} → statement M
 class-end-spec = tie.close (tie.spec token-at-requires (λ c κs. search needs) returns closed-requires returns-2)

@@ -34,4 +34,6 @@ pub mod RowLaws
 pub mod RowCases
 pub mod Conjunct
 pub mod ConjunctLaws
+pub mod Equation
+pub mod EquationLaws
 pub mod Theorem

@@ -59,7 +59,7 @@ part-said s (suc f) at n h l = go (eqb (kindAt s at) 0) refl
     go true e = part-end s at n (eqb→eq (kindAt s at) 0 (subst T (sym e) tt))
     go false e = part-token s at n (tokensFrom s f (endAt s at))
 
-standing-said : (s : List ℕ) (f at q n : ℕ) → at ≤ length s → length s < at + f → restrictionsOf (standingFrom s f at q n) ≡ saidBy q n (tokensFrom s f at)
+pub standing-said : (s : List ℕ) (f at q n : ℕ) → at ≤ length s → length s < at + f → restrictionsOf (standingFrom s f at q n) ≡ saidBy q n (tokensFrom s f at)
 unfolding standingFrom tokensFrom saidBy
 standing-said s zero at q n h l = refl
 standing-said s (suc f) at q n h l = go (eqb (kindAt s at) 0) refl (λ m. standing-said s f (endAt s at) (sortAfter q (kindAt s at)) m)

@@ -1,0 +1,4 @@
+pub mod Passing
+pub mod PassingLaws
+pub mod Entries
+pub mod EntriesLaws

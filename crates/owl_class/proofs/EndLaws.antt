@@ -2,7 +2,7 @@
 --
 --   deeper-left, deeper-other, deeper-none, deeper-right == the code's cases
 --   tokens-fuel, rest-start, rest-end, rest-turn == the tokens from a byte on
---   jumps-start, jumps-turn, jumps-first == bytes behind some tokens, token by token
+--   jumps-start, jumps-turn, jumps-first, jumps-le, end-behind == bytes behind some tokens, token by token
 --   skip-on, skip-stop        == the invariant of the loop, token by token
 --   skip-class, skip-classes  == brackets in a class expression are closed in it
 --   ends-name, ends-word      == where it ends
@@ -16,6 +16,7 @@ use lib.ListN.{length}
 use borrow.Author.Tests.{eq-eqb, ne-eqb, eqb-false}
 use Rattle.owl.specs.Tree.{short, full, Class, named, intersectionOf, someValuesFrom, Classes, last, more}
 use Rattle.owl.specs.Token.{kindAt, endAt}
+use Rattle.owl.specs.TokenLaws.{end-after}
 use Rattle.owl.specs.Written.{Token, text, kind, ‹ObjectIntersectionOf›, ‹ObjectSomeValuesFrom›, tokenAt, tokensFrom, tokens, ‹left›, ‹right›, written, writtens}
 use Rattle.owl.specs.Grammar.{isName}
 use Rattle.owl.specs.TextLaws.{kind-at}
@@ -108,6 +109,21 @@ pub jumps-first : (s : List ℕ) (at k p e r : ℕ) → AtToken s at k p e → (
 unfolding Jumps
 jumps-first s at k p e r t z j = (suc (j .0), before-by s at r (j .0) (λ y. z (t .0 ∙ y)) (subst (λ (x : ℕ). JumpsBy s x (j .0) r) (t .2) (j .1)))
 
+by-le : (s : List ℕ) (at i e : ℕ) → JumpsBy s at i e → at ≤ e
+by-le s at zero e j = omega arith
+by-le s at (suc i) e j =
+    let a : at ≤ j .0 = by-le s at i (j .0) (j .1) in
+    let b : j .0 ≤ endAt s (j .0) = end-after s (j .0) in
+    let c : e ≡ endAt s (j .0) = j .3 in
+    omega arith
+
+pub jumps-le : (s : List ℕ) (at e : ℕ) → Jumps s at e → at ≤ e
+unfolding Jumps
+jumps-le s at e j = by-le s at (j .0) e (j .1)
+
+pub end-behind : (s : List ℕ) (at k p e : ℕ) → AtToken s at k p e → at ≤ e
+end-behind s at k p e t = let a : at ≤ endAt s at = end-after s at in let b : e ≡ endAt s at = t .2 in omega arith
+
 ----------------------------------------------------------------------------------------------------
 -- Skipping, token by token
 
@@ -196,11 +212,11 @@ some-closed t C rest h l =
 ----------------------------------------------------------------------------------------------------
 -- Where a class expression ends
 
-abbrev first : List Token → ℕ
+abbrev pub first : List Token → ℕ
 first [] = 0
 first (t ∷ ts) = kind t
 
-abbrev behind : List Token → List Token
+abbrev pub behind : List Token → List Token
 behind [] = []
 behind (t ∷ ts) = ts
 

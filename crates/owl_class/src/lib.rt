@@ -67,7 +67,7 @@ pub fn closed(s: &[u8], from: usize) -> usize
 // The byte behind the class expression that begins with the next token after a byte.
 pub fn class_end(s: &[u8], at: usize) -> usize
     requires { ⌜ at ≤ length (now s) ⌝ }
-    ensures { λ r. ⌜ EndsAt (now (s .entry)) at r × (r ≤ length (now (s .entry))) ⌝ }
+    ensures { λ r. ⌜ EndsAt (now (s .entry)) at r × (r ≤ length (now (s .entry))) × (at ≤ r) ⌝ }
 {
     let t = owl_token::token_at(s, at);
     let kind = t.kind;

@@ -159,7 +159,7 @@ pub fn row_number(s: &[u8], at: usize) -> usize
 }
 
 // 1 if a token is the role of a restriction whose filler is no name, else 0.
-fn own_here(s: &[u8], does: u8, kind: u8, end: usize) -> usize
+pub fn own_here(s: &[u8], does: u8, kind: u8, end: usize) -> usize
     requires { ⌜ end ≤ length (now s) ⌝ }
     ensures { λ r. ⌜ (r ≡ oneIf (ownHere (now (s .entry)) does kind end)) × (r ≤ 1) ⌝ }
 {

@@ -1,0 +1,3 @@
+pub mod AxiomLaws
+pub mod HeadLaws
+pub mod FillerLaws

@@ -68,7 +68,7 @@ adds-again s does p k n e j from to r h d t c f z = ap oneIf (sym (named-asked s
 ----------------------------------------------------------------------------------------------------
 -- The first of its row
 
-keys-are : (l : List Standing) → keys placeIn keyIn l ≡ restrictionsOf l
+pub keys-are : (l : List Standing) → keys placeIn keyIn l ≡ restrictionsOf l
 unfolding keys
 keys-are [] = refl
 keys-are (x ∷ l) = ap (λ (k : List Restriction). x .restriction ∷ k) (keys-are l)
@@ -126,7 +126,7 @@ counting-limit s limit at does count k p e c t l =
     (let d : p ≡ placeAt s at = t .1 in let y : limit ≤ placeAt s at = omega arith in y))
 
 -- a role is counted where its restriction stands nowhere before
-role-adds : (s : List ℕ) (at does n : ℕ) (pre post : List Standing) → standing s ≡ pre ++ (standingAt s at n ∷ post) → isName (kindAt s at) ≡ true → eqb does 4 ≡ true →
+pub role-adds : (s : List ℕ) (at does n : ℕ) (pre post : List Standing) → standing s ≡ pre ++ (standingAt s at n ∷ post) → isName (kindAt s at) ≡ true → eqb does 4 ≡ true →
     eqb (first s (standingAt s at n .restriction)) (placeAt s at) ≡ addsRow s does (placeAt s at) (kindAt s at) (nameAt s at) (endAt s at)
 unfolding partAt firstRow
 role-adds s at does n pre post d i q = go (isName (kindAt s (endAt s at))) refl

@@ -84,7 +84,7 @@ pub fn first_row(s: &[u8], k: u8, role: &[u8], j: u8, filler: &[u8]) -> usize
 }
 
 // 1 if a token is the role of a restriction whose row stands nowhere before it, else 0.
-fn adds(s: &[u8], does: u8, place: usize, kind: u8, token: &[u8], end: usize) -> usize
+pub fn adds(s: &[u8], does: u8, place: usize, kind: u8, token: &[u8], end: usize) -> usize
     requires { ⌜ end ≤ length (now s) ⌝ }
     ensures { λ r. ⌜ (r ≡ oneIf (addsRow (now (s .entry)) does place kind (nameBy kind (now (token .entry))) end)) × (r ≤ 1) ⌝ }
 {

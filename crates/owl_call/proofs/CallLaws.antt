@@ -16,9 +16,11 @@ use borrow.Author.Tests.{lt-ltb}
 use Rattle.el.specs.Test.{everyOf}
 use Rattle.el.specs.TestLaws.{and-make, and-left, and-right, true-is, everyOf-both}
 use Rattle.el.specs.Table.{Filler, topF, constantF, variableF, Entry, constant, restriction, variable, Row, Line, Table, fillerDeclared, rowDeclared, entryDeclared, lineDeclared, declared, roleOrder}
-use Rattle.el.specs.OrderLaws.{roleOrder-refl, roleOrder-trans}
-use Rattle.bounds.specs.Bounds.{bounds, maxAtoms, maxRoles, maxVariables, maxLines, maxLeft}
-use Rattle.table.specs.Bytes.{fillerCode, entryCode, writtenHeader, writtenRow, writtenEntry, writtenLine, bytesWith, countsOf, bytesOf, longestLine}
+use Rattle.el.specs.RoleLaws.{roleOrder-refl, roleOrder-trans}
+use Rattle.el.specs.TableLaws.{rows-declared, lines-declared}
+use Rattle.bounds.specs.Bounds.{bounds, maxAtoms, maxRoles, maxVariables, maxLines, maxLeft, maxRoleRows}
+use Rattle.table.specs.Reading.{hasRoleRows}
+use Rattle.table.specs.Bytes.{fillerCode, entryCode, writtenRoleCount, writtenHeader, writtenRow, writtenEntry, writtenLine, bytesWith, countsOf, bytesOf, longestLine}
 use Rattle.text.specs.Append.{Appended}
 use Rattle.text.specs.AppendLaws.{appended-then, appended-as, appended-whole, appended-room}
 use Rattle.owl.specs.Once.{once}
@@ -143,10 +145,9 @@ module _ (t : Table) (few-atoms : t .constants + length (t .rows) ≤ maxAtoms) 
       (is-small (fillerCode (row .filler)) (filler-small (row .filler) (and-right (ltb (row .role) (t .roles)) (fillerDeclared t (row .filler)) h)))
 
   all-small : T (declared t) → T (everyOf smallRow (t .rows)) × T (everyOf smallLine (t .lines))
-  unfolding declared
   all-small h =
-      let rows : T (everyOf (rowDeclared t) (t .rows)) = and-left (everyOf (rowDeclared t) (t .rows)) (everyOf (lineDeclared t) (t .lines)) h in
-      let lines : T (everyOf (lineDeclared t) (t .lines)) = and-right (everyOf (rowDeclared t) (t .rows)) (everyOf (lineDeclared t) (t .lines)) h in (
+      let rows = rows-declared t h in
+      let lines = lines-declared t h in (
         everyOf-both (rowDeclared t) (rowDeclared t) smallRow (t .rows) (λ row x y. row-small row x) rows rows,
         everyOf-both (lineDeclared t) (lineDeclared t) smallLine (t .lines) (λ l x y. line-small l x) lines lines,
       )
@@ -195,6 +196,11 @@ module _ (s : List ℕ) (f : File) (e : Says s f) (known : T (allKnown f)) where
   unfolding countsOf
   in-few x = record { few = x .counts .few-lines; short = x .left }
 
+  -- there is no role row
+  none-few : length (table .roleRows) ≤ maxRoleRows
+  unfolding flatTable tableOf
+  none-few = omega arith
+
   within-in : WithinCounts s → Few (table .lines) → InBounds table
   unfolding countsOf
   within-in w x = record {
@@ -203,6 +209,7 @@ module _ (s : List ℕ) (f : File) (e : Says s f) (known : T (allKnown f)) where
       few-variables = (let h : opensIn s + freshesIn s ≤ maxVariables = w .few-variables in let a : table .variables ≡ opensIn s + freshesIn s = is-variables in omega arith);
       few-atoms = (let h : constantsIn s + rowCount s ≤ maxAtoms = w .few-atoms in let a : table .constants ≡ constantsIn s = is-constants in let b : length (table .rows) ≡ rowCount s = is-count in omega arith);
       few-lines = x .few;
+      few-role-rows = none-few;
     };
     left = x .short;
   }
@@ -232,8 +239,8 @@ module _ (s : List ℕ) (f : File) (e : Says s f) (known : T (allKnown f)) where
       (d .0, d .1, whole .1 ∙ ap length (whole .2), whole .2, whole .0)
 
   -- the bytes of the table
-  table-bytes : (c r o v n m : ℕ) → Counted s c r o v n → m ≡ length (table .lines) → headerBytes c r v n m ++ (flatMap writtenRow (rowsOf s o) ++ lineBytes) ≡ bytesOf table
-  unfolding bytesOf bytesWith writtenHeader countsOf
+  table-bytes : (c r o v n m : ℕ) → Counted s c r o v n → m ≡ length (table .lines) → headerBytes c r v n m ++ (flatMap writtenRow (rowsOf s o) ++ lineBytes) ≡ bytesOf 1 table
+  unfolding bytesOf bytesWith hasRoleRows writtenRoleCount writtenHeader countsOf flatTable tableOf flatMap
   table-bytes c r o v n m x y =
       let a : c ≡ table .constants = x .constants ∙ sym is-constants in
       let b : r ≡ table .roles = x .roles ∙ sym is-roles in
@@ -244,8 +251,8 @@ module _ (s : List ℕ) (f : File) (e : Says s f) (known : T (allKnown f)) where
       ∙ ap₂ (λ (i j : ℕ). headerBytes (table .constants) (table .roles) i j m ++ (flatMap writtenRow (rowsOf s o) ++ lineBytes)) d g
       ∙ ap₂ (λ (i : ℕ) (l : List Row). headerBytes (table .constants) (table .roles) (table .variables) (length (table .rows)) i ++ (flatMap writtenRow l ++ lineBytes)) y h
 
-  table-length : length (bytesOf table) ≡ 10 + 2 * rowCount s + length lineBytes
-  unfolding bytesOf bytesWith writtenHeader countsOf
+  table-length : length (bytesOf 1 table) ≡ 10 + 2 * rowCount s + length lineBytes
+  unfolding bytesOf bytesWith hasRoleRows writtenRoleCount writtenHeader countsOf flatTable tableOf flatMap
   table-length =
       let a : length (flatMap writtenRow (table .rows)) ≡ 2 * length (table .rows) = rows-bytes (table .rows) in
       let b : length (flatMap writtenRow (table .rows) ++ lineBytes) ≡ length (flatMap writtenRow (table .rows)) + length lineBytes = length-append (flatMap writtenRow (table .rows)) lineBytes in
@@ -282,8 +289,8 @@ module _ (s b : List ℕ) (c r o v e : ℕ) (counts : Counted s c r o v e) (wide
       let p : n ≡ end = least (w .4) in
       let q : end ≡ length (flatMap writtenLine (flatTable f .lines)) = w .2 in
       let i : e ≡ rowCount s = counts .rows in
-      let t : length (bytesOf (flatTable f)) ≡ 10 + 2 * rowCount s + length (flatMap writtenLine (flatTable f .lines)) = table-length s f says known in
-      let same : length (bytesOf (flatTable f)) ≡ long = omega arith in
+      let t : length (bytesOf 1 (flatTable f)) ≡ 10 + 2 * rowCount s + length (flatMap writtenLine (flatTable f .lines)) = table-length s f says known in
+      let same : length (bytesOf 1 (flatTable f)) ≡ long = omega arith in
       subst (λ (k : ℕ). TableAt (flatTable f) b (owl 17 0 k b)) same (short (within-in s f says known (counts .within) (w .0)) (omega arith))
 
   pub all-made : (long : ℕ) (a : List ℕ) (last : ℕ) → long ≡ 10 + 2 * e + n → long ≤ length b → PutTable s o c r v e m (take n lines) b a last → TableMade s b a 0 long 0
@@ -294,7 +301,7 @@ module _ (s b : List ℕ) (c r o v e : ℕ) (counts : Counted s c r o v e) (wide
       let p : n ≡ end = least (w .4) in
       let q : end ≡ length (flatMap writtenLine (flatTable f .lines)) = w .2 in
       let i : e ≡ rowCount s = counts .rows in
-      let B : List ℕ = bytesOf (flatTable f) in
+      let B : List ℕ = bytesOf 1 (flatTable f) in
       let t : length B ≡ 10 + 2 * rowCount s + length (flatMap writtenLine (flatTable f .lines)) = table-length s f says known in
       let same : length B ≡ long = omega arith in
       let rows : T (everyOf smallRow (rowsOf s o)) = subst (λ (k : List Row). T (everyOf smallRow k)) (is-rows s f says known ∙ ap (rowsOf s) (sym (counts .opens))) (smalls s f says known (counts .within) .0) in

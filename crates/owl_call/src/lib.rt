@@ -45,7 +45,7 @@ fn counts(s: &[u8]) -> Totals
         return none();
     }
     let roles = owl_name::roles(s);
-    if table::wide(bounds::MAX_ROLES) < roles {
+    if bounds::MAX_ROLES < roles {
         return none();
     }
     let opens = owl_name::opens(s);

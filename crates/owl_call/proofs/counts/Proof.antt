@@ -13,7 +13,7 @@ returns-2 : tie.Need-returns-2
 returns-2 c = laws.counts-none _ _ _ _ _ _ _ (c .none2 .ensures) (λ w. let h = w .few-atoms in let a = c .before .before .before .before .constants .ensures in let e = c .before .before .rows .ensures in let k = c .before .if2 .taken in omega arith)
 
 returns-3 : tie.Need-returns-3
-returns-3 c = laws.counts-none _ _ _ _ _ _ _ (c .none3 .ensures) (λ w. let h = w .few-roles in let r = c .before .before .before .roles .ensures in let x = c .before .before .wide .ensures in let k = c .before .if3 .taken in omega arith)
+returns-3 c = laws.counts-none _ _ _ _ _ _ _ (c .none3 .ensures) (λ w. let h = w .few-roles in let r = c .before .before .roles .ensures in let k = c .before .if3 .taken in omega arith)
 
 returns-4 : tie.Need-returns-4
 returns-4 c = laws.counts-none _ _ _ _ _ _ _ (c .none4 .ensures) (λ w. let h = w .few-variables in let o = c .before .before .opens .ensures in let k = c .before .if4 .taken in omega arith)
@@ -23,13 +23,12 @@ returns-5 c = laws.counts-none _ _ _ _ _ _ _ (c .none5 .ensures) (λ w. let h = 
 
 returns-6 : tie.Need-returns-6
 returns-6 c =
-    let a = c .before .before .before .before .before .before .before .before .before .before .constants .ensures in
-    let e = c .before .before .before .before .before .before .before .before .rows .ensures in
-    let r = c .before .before .before .before .before .before .roles .ensures in
-    let x = c .before .before .before .before .before .wide .ensures in
+    let a = c .before .before .before .before .before .before .before .before .before .constants .ensures in
+    let e = c .before .before .before .before .before .before .before .rows .ensures in
+    let r = c .before .before .before .before .before .roles .ensures in
     let o = c .before .before .before .opens .ensures in
     let n = c .before .fresh .ensures in
-    laws.counts-all _ _ _ _ _ _ (laws.counted-make _ _ _ _ _ _ a r o n e (let h = c .before .before .before .before .before .before .before .before .before .if1 .left in let k = c .before .before .before .before .before .before .before .if2 .left in omega arith) (let h = c .before .before .before .before .if3 .left in omega arith) (let h = c .before .before .if4 .left in let k = c .if5 .left in omega arith))
+    laws.counts-all _ _ _ _ _ _ (laws.counted-make _ _ _ _ _ _ a r o n e (let h = c .before .before .before .before .before .before .before .before .if1 .left in let k = c .before .before .before .before .before .before .if2 .left in omega arith) (let h = c .before .before .before .before .if3 .left in omega arith) (let h = c .before .before .if4 .left in let k = c .if5 .left in omega arith))
 
 pub counts-spec : {M : Type 1} → statement M
 counts-spec =
@@ -41,7 +40,6 @@ counts-spec =
     (λ c κs. search needs)
     (λ c κs. search needs)
     returns-2
-    (λ c κs. search needs)
     (λ c κs. search needs)
     (λ c κs. search needs)
     returns-3

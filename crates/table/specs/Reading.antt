@@ -10,7 +10,7 @@
 --   byteAt s i           == byte i
 --   missing s i          == there is no byte i
 --   versionPlace, constantsPlace, rolesPlace, variablesPlace, restrictionsPlace, linesPlace, roleRowsPlace == the byte of the version and of each count
---   headerLength         == how many bytes a header has in each version
+--   headerLength         == how many bytes a header has without its count of role rows
 --   hasRoleRows n        == tables of version n have role rows
 --   headerEnd h          == how many bytes the header h has
 --   roleCount s          == the count q of role rows; 0 in version 1

@@ -1,5 +1,5 @@
-/* compare OUTCOMES SAMPLE...: runs the second reader over the files with known outcome, and compares it with the proved check, which
-   knows 10 and the 11 of what is not listed: on those files, on the samples cut off at every byte, and on texts by chance.
+/* compare OUTCOMES SAMPLE...: runs the second reader over the files with known outcome, and compares it with the proved call, number, count,
+   place and buffer: on those files, on the samples cut off at every byte, and on texts by chance, in buffers of several lengths.
    compare text N: prints the text that comes of the number N.
 
    A table that the second reader makes must be readable for the second solver, and be solved or not as the text was made to be; under a
@@ -8,7 +8,7 @@
 #include "reader.h"
 #include "../second/second.h"
 
-uint32_t makrothel_owl_check(const unsigned char *text, size_t length, uint64_t *place);
+uint32_t makrothel_owl(const unsigned char *text, size_t length, unsigned char *out, size_t room, uint64_t *numbers);
 
 enum {
     FRESH = 10000, /* texts by chance */
@@ -89,33 +89,42 @@ static void known(const struct outcome *outcome) {
     }
 }
 
-/* ---- The comparison with the proved check */
+/* ---- The comparison with the proved call */
 
 static int is_checked(enum owl_kind kind) { return kind == OWL_SYNTAX || kind == OWL_UNLISTED; }
 
-/* Whether the check says what follows from an answer. */
-static int agrees(const unsigned char *text, size_t length, const struct owl_answer *answer) {
-    uint64_t place = 77;
-    unsigned number = makrothel_owl_check(text, length, &place);
-    if (is_checked(answer->kind)) return number == answer->number && place == answer->place;
-    return number == 0 && place == 0;
+/* What the proved call answers. */
+static struct run call(const unsigned char *text, size_t length, size_t room) {
+    struct run run;
+    uint64_t numbers[2] = {77, 77};
+    memset(run.buffer, FILL, BUFFER);
+    run.answer.kind = OWL_KINDS;
+    run.answer.number = makrothel_owl(text, length, run.buffer, room, numbers);
+    run.answer.count = numbers[0];
+    run.answer.place = numbers[1];
+    return run;
+}
+
+/* Whether the call answers what the second reader does, and leaves the same buffer. */
+static int agrees(const unsigned char *text, size_t length, size_t room, const struct run *run) {
+    struct run called = call(text, length, room);
+    return called.answer.number == run->answer.number && called.answer.count == run->answer.count &&
+           called.answer.place == run->answer.place && memcmp(called.buffer, run->buffer, BUFFER) == 0;
 }
 
 /* Makes a text on which they differ shorter as long as they still do, and shows it. */
 static _Noreturn void differ(const char *note, const unsigned char *text, size_t length) {
     unsigned char *small = malloc(2 * length + 2), *tried = small + length + 1;
     size_t part, at;
-    struct owl_answer answer;
-    uint64_t place = 0;
-    unsigned number;
+    struct run run, called;
     if (!small) abort();
     memcpy(small, text, length);
     for (part = length / 2 + 1; part > 0; part = part == 1 ? 0 : part / 2) {
         for (at = 0; at + part <= length;) {
             memcpy(tried, small, at);
             memcpy(tried + at, small + at + part, length - part - at);
-            answer = read_text(tried, length - part, BUFFER).answer;
-            if (agrees(tried, length - part, &answer)) {
+            run = read_text(tried, length - part, BUFFER);
+            if (agrees(tried, length - part, BUFFER, &run)) {
                 at++;
             } else {
                 length -= part;
@@ -123,10 +132,11 @@ static _Noreturn void differ(const char *note, const unsigned char *text, size_t
             }
         }
     }
-    answer = read_text(small, length, BUFFER).answer;
-    number = makrothel_owl_check(small, length, &place);
-    printf("owl: %s: the second reader says %u at %llu (%s), the check %u at %llu: ", note, answer.number, (unsigned long long)answer.place,
-           kind_names[answer.kind], number, (unsigned long long)place);
+    run = read_text(small, length, BUFFER);
+    called = call(small, length, BUFFER);
+    printf("owl: %s: the second reader says %u %llu %llu (%s), the call %u %llu %llu: ", note, run.answer.number,
+           (unsigned long long)run.answer.count, (unsigned long long)run.answer.place, kind_names[run.answer.kind], called.answer.number,
+           (unsigned long long)called.answer.count, (unsigned long long)called.answer.place);
     show(small, length);
     exit(1);
 }
@@ -138,7 +148,8 @@ static void try_buffers(const unsigned char *text, size_t length, const struct r
     struct reading reading = second_read(run->buffer, (u32)count);
     kinds[less.answer.kind]++;
     if (reading.number == 0 && whole.answer.kind == OWL_MADE && memcmp(whole.buffer, run->buffer, BUFFER) == 0 &&
-        less.answer.kind == OWL_SHORT && less.answer.place == count)
+        less.answer.kind == OWL_SHORT && less.answer.place == count && agrees(text, length, count, &whole) &&
+        agrees(text, length, count - 1, &less))
         return;
     printf("owl: an unreadable table, or another one in another buffer: ");
     show(text, length);
@@ -149,7 +160,7 @@ static struct run compare(const char *note, const unsigned char *text, size_t le
     struct run run = read_text(text, length, BUFFER);
     compared++;
     kinds[run.answer.kind]++;
-    if (!agrees(text, length, &run.answer)) differ(note, text, length);
+    if (!agrees(text, length, BUFFER, &run)) differ(note, text, length);
     if (run.answer.kind == OWL_MADE) try_buffers(text, length, &run);
     return run;
 }

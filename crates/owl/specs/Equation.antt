@@ -5,7 +5,7 @@
 --   ownedBy q n ts   == those of the tokens ts
 --   equationOf d v rows x == the equivalence of its fresh variable and its conjuncts
 --   equationsFor d v rows l == those of all of l
-use mathlib.Core.Bool.{Bool, true, false, _&&_}
+use mathlib.Core.Bool.{true, false, _&&_}
 use mathlib.Core.List.{List, [], _∷_, _++_, map}
 use Prim.Native.Nat.{ℕ, _+_}
 use lib.Dec.{eqb}

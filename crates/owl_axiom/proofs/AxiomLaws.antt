@@ -6,10 +6,10 @@
 --   sought-start, sought-turn, sought-sub, sought-equivalent, sought-none == item by item
 use mathlib.Core.Path.{_≡_, refl, sym, ap, subst, _∙_}
 use mathlib.Core.List.{List, [], _∷_}
-use Prim.Native.Nat.{ℕ, suc, _+_, _≤_}
+use Prim.Native.Nat.{ℕ, _+_}
 use native.Mathlib.Omega.{arith}
 use lib.ListN.{length}
-use Rattle.owl.specs.Tree.{short, full, Class, Axiom, subClassOf, equivalentClasses, Entity, class, objectProperty, Item, declaration, stated, axiomsOf}
+use Rattle.owl.specs.Tree.{short, full, subClassOf, equivalentClasses, Entity, class, objectProperty, Item, declaration, stated, axiomsOf}
 use Rattle.owl.specs.Written.{Token, kind, ‹left›, ‹right›, ‹Declaration›, ‹SubClassOf›, ‹EquivalentClasses›, written, writtenEntity, writtenItems}
 use Rattle.owl.specs.Grammar.{isName}
 use Rattle.owl.specs.Mention.{wordSorts, sortAfter, namesIn}
@@ -17,9 +17,9 @@ use Rattle.owl.specs.Conjunct.{numberAfter}
 use Rattle.owl_name.proofs.RestLaws.{AtToken}
 use Rattle.owl_class.specs.Ends.{restTokens, deeper, skip, Jumps, EndsAt}
 use Rattle.owl_class.proofs.EndLaws.{first, rest-first}
-use Rattle.owl_axiom.specs.Passing.{Passing, passing, step, gone, Stands, SideAt}
+use Rattle.owl_axiom.specs.Passing.{Passing, passing, step, Stands}
 use Rattle.owl_axiom.specs.PassingLaws.{stands-step, stands-jump, class-past}
-use Rattle.owl_axiom.specs.Axioms.{ItemsAt, freshIn, Sides, WordSides, AxiomIs, NextAxiom}
+use Rattle.owl_axiom.specs.Axioms.{ItemsAt, freshIn, WordSides, AxiomIs, NextAxiom}
 
 pub stands-kind : (s : List ℕ) (at q n k p e : ℕ) (t : Token) (ts : List Token) → Stands s at (passing q n (t ∷ ts)) → AtToken s at k p e → kind t ≡ k
 stands-kind s at q n k p e t ts c a = sym (ap first (c .left)) ∙ rest-first s at k p e a (c .within) .0

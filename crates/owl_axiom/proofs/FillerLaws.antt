@@ -5,12 +5,12 @@
 use mathlib.Core.Path.{_≡_, refl, sym, ap, ap₂, subst, _∙_}
 use mathlib.Core.Bool.{Bool, true, false, _&&_, _||_, not}
 use mathlib.Core.List.{List, [], _∷_, _++_}
-use Prim.Native.Nat.{ℕ, suc, _+_, _≤_}
+use Prim.Native.Nat.{ℕ, _+_, _≤_}
 use native.Mathlib.Omega.{arith}
 use lib.Dec.{T, eqb, eqb→eq}
 use lib.ListN.{length}
 use Rattle.owl.specs.Token.{kindAt, endAt}
-use Rattle.owl.specs.Written.{Token, kind, tokenAt}
+use Rattle.owl.specs.Written.{Token}
 use Rattle.owl.specs.TextLaws.{kind-at}
 use Rattle.owl.specs.Grammar.{isName}
 use Rattle.owl.specs.Mention.{sortAfter}

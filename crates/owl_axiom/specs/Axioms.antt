@@ -12,7 +12,7 @@
 --                         SubClassOf; any other: EquivalentClasses
 use mathlib.Core.Path.{_≡_}
 use mathlib.Core.List.{List, [], _∷_}
-use Prim.Native.Nat.{ℕ, _+_, _≤_}
+use Prim.Native.Nat.{ℕ, _+_}
 use Rattle.owl.specs.Tree.{Class, Axiom, subClassOf, equivalentClasses, Item, Head, File, axiomsOf}
 use Rattle.owl.specs.Written.{Token, ‹left›, ‹right›, written, writtenItems, writtenHead, Says}
 use Rattle.owl.specs.Mention.{namesIn}

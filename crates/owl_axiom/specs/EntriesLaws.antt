@@ -17,12 +17,12 @@ use Rattle.el.specs.Table.{Entry, restriction}
 use Rattle.owl.specs.OnceLaws.{every-second}
 use Rattle.owl.specs.Tree.{Name, Class, File}
 use Rattle.owl.specs.Naming.{isThing, Names, namesOf, allKnown}
-use Rattle.owl.specs.Written.{Token, kind, written, Says}
+use Rattle.owl.specs.Written.{Token, kind, Says}
 use Rattle.owl.specs.Grammar.{isName}
 use Rattle.owl.specs.Mention.{sortAfter, nameBy}
 use Rattle.owl.specs.Flattening.{conceptOf, conjuncts}
 use Rattle.owl.specs.Said.{bytesOf, partOf, ownOf, saidBy}
-use Rattle.owl.specs.Restriction.{Restriction, restricted, Standing, standing, restrictionsOf, isKnownIn, rowsOfFile}
+use Rattle.owl.specs.Restriction.{Restriction, restricted, Standing, restrictionsOf, isKnownIn, rowsOfFile}
 use Rattle.owl.specs.RestrictionLaws.{standing-said}
 use Rattle.owl.specs.RowLaws.{restrictions-known, row-place}
 use Rattle.owl.specs.Conjunct.{Conjunct, aClass, aRestriction, isZero, isOne, classOf, onwards, here, endsHere, outerAfter, innerAfter, numberAfter, conjunctsBy, conjunctsIn, entryFor}

@@ -4,9 +4,9 @@
 --   class-gone     == a class expression passed
 --   stands-step, stands-jump == the same at the bytes of a text
 --   class-past     == behind the end of a class expression that stands in a text
-use mathlib.Core.Path.{_≡_, refl, sym, ap, ap₂, subst, _∙_}
-use mathlib.Core.List.{List, [], _∷_}
-use Prim.Native.Nat.{ℕ, zero, suc, _+_, _≤_}
+use mathlib.Core.Path.{_≡_, refl, sym, ap, subst, _∙_}
+use mathlib.Core.List.{List, _∷_}
+use Prim.Native.Nat.{ℕ, zero, suc, _+_}
 use native.Mathlib.Omega.{arith}
 use lib.ListN.{length}
 use Rattle.owl.specs.Tree.{short, full, Class, named, intersectionOf, someValuesFrom, Classes, last, more}
@@ -22,10 +22,9 @@ use Rattle.owl.specs.Flattening.{nameOf, conceptOf, conceptsOf, own, fresh}
 use Rattle.owl.specs.RestrictionLaws.{plus-none, plus-three, name-flat, part-class}
 use Rattle.owl.specs.Conjunct.{numberAfter}
 use Rattle.owl_class.specs.Ends.{restTokens, JumpsBy, Jumps, EndsAt}
-use Rattle.owl_class.specs.Conjuncts.{Reached}
 use Rattle.owl_class.proofs.EndLaws.{rest-turn}
 use Rattle.owl_class.proofs.TurnLaws.{reached-turn}
-use Rattle.owl_axiom.specs.Passing.{Passing, passing, stepOver, step, gone, tokensIn, tokensOf, Stands, SideAt}
+use Rattle.owl_axiom.specs.Passing.{Passing, passing, stepOver, step, gone, tokensIn, tokensOf, Stands}
 
 pub gone-last : (i : ℕ) (x : Passing) → gone (suc i) x ≡ step (gone i x)
 gone-last zero x = refl

@@ -6,7 +6,7 @@
 --   counts-over, lines-over, too-short, all-made == each answer to a text whose names are declared
 --   call-spoiled, call-unknown, call-said == each answer to a text
 use mathlib.Core.Path.{_≡_, refl, sym, ap, ap₂, subst, _∙_}
-use mathlib.Core.Bool.{Bool, true, false, _&&_}
+use mathlib.Core.Bool.{Bool, true, false}
 use mathlib.Core.List.{List, [], _∷_, _++_, flatMap}
 use Prim.Native.Nat.{ℕ, suc, _+_, _*_, _≤_, _<_}
 use native.Mathlib.Omega.{arith}
@@ -18,23 +18,23 @@ use Rattle.el.specs.TestLaws.{and-make, and-left, and-right, true-is, everyOf-b
 use Rattle.el.specs.Table.{Filler, topF, constantF, variableF, Entry, constant, restriction, variable, Row, Line, Table, fillerDeclared, rowDeclared, entryDeclared, lineDeclared, declared, roleOrder}
 use Rattle.el.specs.RoleLaws.{roleOrder-refl, roleOrder-trans}
 use Rattle.el.specs.TableLaws.{rows-declared, lines-declared}
-use Rattle.bounds.specs.Bounds.{bounds, maxAtoms, maxRoles, maxVariables, maxLines, maxLeft, maxRoleRows}
+use Rattle.bounds.specs.Bounds.{maxAtoms, maxRoles, maxVariables, maxLines, maxLeft, maxRoleRows}
 use Rattle.table.specs.Reading.{hasRoleRows}
 use Rattle.table.specs.Bytes.{fillerCode, entryCode, writtenRoleCount, writtenHeader, writtenRow, writtenEntry, writtenLine, bytesWith, countsOf, bytesOf, longestLine}
 use Rattle.text.specs.Append.{Appended}
 use Rattle.text.specs.AppendLaws.{appended-then, appended-as, appended-whole, appended-room}
 use Rattle.owl.specs.Once.{once}
-use Rattle.owl.specs.Tree.{File, axiomsOf}
+use Rattle.owl.specs.Tree.{File}
 use Rattle.owl.specs.Naming.{Names, namesOf, allKnown}
 use Rattle.owl.specs.Written.{Says}
 use Rattle.owl.specs.Grammar.{checked}
 use Rattle.owl.specs.TextLaws.{accepted-means}
-use Rattle.owl.specs.Mention.{namesIn, undeclared}
+use Rattle.owl.specs.Mention.{undeclared}
 use Rattle.owl.specs.MentionLaws.{names-said}
 use Rattle.owl.specs.UndeclaredLaws.{undeclared-means}
-use Rattle.owl.specs.Flattening.{tableOf, flatTable, statementsOf, freshAll}
+use Rattle.owl.specs.Flattening.{tableOf, flatTable}
 use Rattle.owl.specs.FlatteningLaws.{flat-declared}
-use Rattle.owl.specs.Restriction.{Restriction, standing, restrictionsOf, ownsOf, sameRestriction, rowsFor, rowsOfFile}
+use Rattle.owl.specs.Restriction.{standing, restrictionsOf, sameRestriction, rowsFor}
 use Rattle.owl.specs.RestrictionLaws.{fresh-said}
 use Rattle.owl.specs.RowLaws.{rows-once, rows-length}
 use Rattle.owl_line.specs.Sides.{small, smallLine, Few, Done}

@@ -9,7 +9,7 @@ use mathlib.Core.List.{List, [], _∷_, _++_, append-assoc, append-nil, map, fla
 use Prim.Native.Nat.{ℕ, zero, suc, _+_, _≤_, _<_}
 use native.Mathlib.Omega.{arith}
 use native.Mathlib.Numerals.{add-one}
-use lib.Dec.{T, eqb, ltb, ltb→lt}
+use lib.Dec.{T, eqb, ltb→lt}
 use lib.ListN.{length, getD, take, length-map}
 use lib.Seq.{take-suc, take-all}
 use borrow.Author.Tests.{eq-eqb, ne-eqb}
@@ -19,10 +19,10 @@ use Rattle.el.specs.Table.{Entry, constant, restriction, variable}
 use Rattle.table.specs.Bytes.{entryCode, writtenEntry}
 use Rattle.text.specs.Append.{Appended}
 use Rattle.text.specs.AppendLaws.{appended-none, appended-then, appended-as}
-use Rattle.owl.specs.Conjunct.{Conjunct, aClass}
+use Rattle.owl.specs.Conjunct.{aClass}
 use Rattle.owl.specs.Tree.{short}
 use Rattle.owl_class.specs.Ends.{HasConjuncts}
-use Rattle.owl_class.specs.Conjuncts.{conjunctsAt, conjunctAt, entryOf, entryBy, EntryIs}
+use Rattle.owl_class.specs.Conjuncts.{conjunctsAt, entryOf, entryBy, EntryIs}
 use Rattle.owl_axiom.specs.Entries.{entriesAt}
 use Rattle.owl_line.specs.Sides.{SideHas, SideIn, none, small, CountIs, CodeIs, PutEntries}
 

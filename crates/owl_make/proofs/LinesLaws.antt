@@ -9,34 +9,32 @@
 use mathlib.Core.Path.{_≡_, refl, sym, ap, ap₂, subst, _∙_}
 use mathlib.Core.Bool.{Bool, true, false}
 use mathlib.Core.List.{List, [], _∷_, _++_, append-assoc, append-nil, map, flatMap}
-use Prim.Native.Nat.{ℕ, suc, _+_, _≤_, _<_}
+use Prim.Native.Nat.{ℕ, _+_, _≤_}
 use native.Mathlib.Omega.{arith}
 use native.Mathlib.Decide.{ℕ-discrete}
 use lib.Dec.{T}
 use lib.ListN.{length}
 use Rattle.el.specs.Test.{everyOf}
 use Rattle.el.specs.Table.{Entry, variable, Row, Line}
-use Rattle.bounds.specs.Bounds.{maxLines}
-use Rattle.table.specs.Bytes.{writtenLine}
 use Rattle.text.specs.AppendLaws.{appended-none}
 use Rattle.owl.specs.Tree.{Class, Axiom, subClassOf, equivalentClasses, Item, File, axiomsOf}
-use Rattle.owl.specs.Naming.{Names, namesOf, allKnown}
-use Rattle.owl.specs.Written.{‹right›, writtenItems, Says}
+use Rattle.owl.specs.Naming.{Names, allKnown}
+use Rattle.owl.specs.Written.{Says}
 use Rattle.owl.specs.Mention.{namesIn}
 use Rattle.owl.specs.MentionLaws.{names-said}
-use Rattle.owl.specs.Flattening.{Concept, conceptOf, fresh, conjuncts, linesOf, bothWays, Statement, statementOf, statementsOf, freshOf, linesIn, equationsIn, eachOf, rowsAll, linesAll, tableOf, flatTable}
+use Rattle.owl.specs.Flattening.{conceptOf, fresh, conjuncts, linesOf, bothWays, Statement, statementOf, statementsOf, linesIn, equationsIn, eachOf, linesAll, tableOf, flatTable}
 use Rattle.owl.specs.Restriction.{rowsOfFile}
-use Rattle.owl.specs.Conjunct.{entryFor, conjunctsIn}
+use Rattle.owl.specs.Conjunct.{entryFor}
 use Rattle.owl.specs.Equation.{Owned, owned, ownedBy, equationOf, equationsFor}
 use Rattle.owl.specs.EquationLaws.{equations-said}
 use Rattle.owl_class.specs.Ends.{restTokens}
 use Rattle.owl_class.specs.Conjuncts.{conjunctsAt, Reached}
-use Rattle.owl_axiom.specs.Passing.{passing, Stands, SideAt}
+use Rattle.owl_axiom.specs.Passing.{SideAt}
 use Rattle.owl_axiom.specs.Entries.{entriesAt}
 use Rattle.owl_axiom.specs.EntriesLaws.{reached-entries, side-entries}
-use Rattle.owl_axiom.specs.Axioms.{ItemsAt, FirstItem, freshIn, Sides, AxiomIs, NextAxiom}
+use Rattle.owl_axiom.specs.Axioms.{ItemsAt, FirstItem, freshIn, NextAxiom}
 use Rattle.owl_axiom.specs.Fillers.{NextFiller}
-use Rattle.owl_line.specs.Sides.{SideHas, SideIn, Few, Done, Grouped}
+use Rattle.owl_line.specs.Sides.{SideHas, SideIn, Done, Grouped}
 use Rattle.owl_make.specs.Lines.{opensIn, statementsIn, axiomLines, equationLines, AxiomDone, FillerDone, AxiomsDone, FillersDone, LinesDone}
 
 pub done-none : (b : List ℕ) → Done b false 0 0 b []

@@ -6,7 +6,7 @@
 use mathlib.Core.Path.{_≡_, refl, sym, ap, ap₂, subst, _∙_}
 use mathlib.Core.Bool.{Bool, true, false, _&&_, _||_, not}
 use mathlib.Core.List.{List, [], _∷_, _++_, append-nil, map, map-append, flatMap}
-use Prim.Native.Nat.{ℕ, suc, _+_, _-_, _≤_, _<_}
+use Prim.Native.Nat.{ℕ, _+_, _-_, _≤_, _<_}
 use native.Mathlib.Omega.{arith}
 use lib.Dec.{T, eqb, ltb, ltb→lt}
 use lib.ListN.{length, take, drop}
@@ -20,7 +20,7 @@ use Rattle.text.specs.AppendLaws.{appended-none, appended-then, appended-as}
 use Rattle.owl.specs.Once.{isAmong, once}
 use Rattle.owl.specs.DistinctLaws.{once-append, among-once}
 use Rattle.owl.specs.Tree.{Name}
-use Rattle.owl.specs.Naming.{Names, roleNumber}
+use Rattle.owl.specs.Naming.{roleNumber}
 use Rattle.owl.specs.Token.{placeAt, kindAt, endAt}
 use Rattle.owl.specs.Grammar.{isName}
 use Rattle.owl.specs.Mention.{sortAfter, nameBy, nameAt, namesIn}
@@ -33,7 +33,7 @@ use Rattle.owl_row.specs.Rows.{placeIn, keyIn, restOf, firstRow, addsRow, fille
 use Rattle.owl_row.proofs.StandLaws.{rest-start, rest-end, rest-turn, all-rising, sameRestriction-refl, sameRestriction-means}
 use Rattle.owl_row.proofs.CountLaws.{keys-are, role-adds}
 use Rattle.owl_line.proofs.SideLaws.{flat-more}
-use Rattle.owl_table.specs.Rows.{smallRow, rowsOf, StandsAt, FillerCode, PutRow, PutRows}
+use Rattle.owl_table.specs.Rows.{smallRow, rowsOf, FillerCode, PutRow, PutRows}
 
 ----------------------------------------------------------------------------------------------------
 -- The code of a filler

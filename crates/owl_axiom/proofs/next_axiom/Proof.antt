@@ -3,7 +3,6 @@ use mathlib.Core.Path.{refl}
 use Prim.Native.Nat.{_-_, _≤_}
 use native.Mathlib.Omega.{arith}
 use lib.ListN.{length}
-use borrow.Author.Needs.{needs}
 use Rattle.owl_name.proofs.RestLaws as rests
 use Rattle.owl_class.proofs.EndLaws as ends
 use Rattle.owl_axiom.proofs.AxiomLaws as laws

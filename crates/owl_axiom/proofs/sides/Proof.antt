@@ -1,5 +1,4 @@
 -- The tokens of an axiom, one after the other.
-use Prim.Native.Nat.{_≤_}
 use mathlib.Core.Path.{refl}
 use native.Mathlib.Omega.{arith}
 use borrow.Author.Needs.{needs}

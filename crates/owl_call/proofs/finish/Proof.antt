@@ -1,9 +1,6 @@
 -- The lines pass a bound; the buffer is too short; or the table is put into it.
 use mathlib.Core.Path.{refl, sym}
-use Prim.Native.Nat.{_≤_}
-use lib.ListN.{length}
 use lib.Seq.{length-take-le}
-use Rattle.bounds.specs.Bounds.{maxAtoms}
 use native.Mathlib.Omega.{arith}
 use borrow.Author.Needs.{needs}
 use Rattle.owl_call.proofs.CallLaws as laws

@@ -1,7 +1,6 @@
 -- A count passes its bound; or the lines are passed.
-use mathlib.Core.Path.{refl, sym}
+use mathlib.Core.Path.{refl}
 use borrow.Author.Tests.{not-true, not-false}
-use native.Mathlib.Omega.{arith}
 use borrow.Author.Needs.{needs}
 use Rattle.owl_call.proofs.CallLaws as laws
 use Rattle.owl_call.proofs.made.Statement.{statement}

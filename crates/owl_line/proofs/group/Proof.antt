@@ -1,9 +1,7 @@
 -- By what the two sides have.
 use mathlib.Core.Path.{refl}
-use Prim.Native.Nat.{_≤_}
 use native.Mathlib.Omega.{arith}
 use borrow.Author.Needs.{needs}
-use Rattle.bounds.specs.Bounds.{maxLines, maxLeft}
 use Rattle.owl_line.proofs.LineLaws as laws
 use Rattle.owl_line.proofs.group.Statement.{statement}
 use Rattle.owl_line.proofs.group.Tie as tie

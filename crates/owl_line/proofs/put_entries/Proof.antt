@@ -1,6 +1,6 @@
 -- The invariant: the codes of the first i entries are written. The measure is how many are left.
 use mathlib.Core.Path.{_≡_, refl, _∙_}
-use Prim.Native.Nat.{_-_, _≤_}
+use Prim.Native.Nat.{_-_}
 use lib.ListN.{length}
 use Rattle.text.specs.AppendLaws.{appended-length}
 use native.Mathlib.Omega.{arith}

@@ -1,10 +1,9 @@
 -- The invariant: the lines of the axioms before byte `at` are passed; the measure is what is left of the text.
 use mathlib.Core.Path.{_≡_, refl, _∙_}
-use Prim.Native.Nat.{_-_, _≤_, _<_}
+use Prim.Native.Nat.{_-_, _≤_}
 use native.Mathlib.Omega.{arith}
 use lib.ListN.{length}
 use borrow.Author.Needs.{needs}
-use borrow.Author.Tests.{not-true, not-false}
 use Rattle.bounds.specs.Bounds.{maxLines}
 use Rattle.owl_make.proofs.LinesLaws as laws
 use Rattle.owl_make.proofs.axioms.Statement.{statement}

@@ -1,12 +1,13 @@
 -- The first class below the second, then the reverse where they are equivalent.
 use mathlib.Core.Path.{_∙_}
+use native.Mathlib.Omega.{arith}
 use borrow.Author.Needs.{needs}
 use Rattle.owl_make.proofs.LinesLaws as laws
 use Rattle.owl_make.proofs.one_axiom.Statement.{statement}
 use Rattle.owl_make.proofs.one_axiom.Tie as tie
 
 group-requires : tie.Need-group-requires
-group-requires c κs = (laws.class-in _ _ (c .before .before .before .pre .0), laws.class-in _ _ (c .before .before .before .pre .1), c .before .before .before .pre .2)
+group-requires c κs = let l = c .before .before .before .pre .0 in let r = c .before .before .before .pre .1 in (laws.class-in _ _ (omega arith), laws.class-in _ _ (omega arith), c .before .before .before .pre .2)
 
 returns : tie.Need-returns
 returns c = (laws.axiom-one _ _ _ _ _ _ _ _ _ _ _ _ _ (c .if1 .taken) (c .before .before .before .group .ensures .0), c .before .before .before .group .ensures .1, c .before .before .before .group .ensures .2)

@@ -3,6 +3,7 @@
 --   owl-unique  == there is one answer
 --   owl-some    == every text and every buffer is answered
 --   in-fits     == a table of a file within the bounds is one that can be read
+--   flat-order  == its order of roles is equality
 --   owl-table   == UNDER 0 the buffer's first bytes are a readable table, the file's, and it has a solving assignment exactly if some substitution makes all axioms hold
 --   owl-none    == where the solver answers "none" to it, no descriptions whatever make all axioms hold
 --   owl-solved  == where it answers "solved", the substitution that the assignment induces makes all axioms hold
@@ -20,7 +21,8 @@ use Rattle.bounds.specs.Bounds.{bounds, maxLeft, setBytes}
 use Rattle.el.specs.Test.{everyOf}
 use Rattle.el.specs.TestLaws.{and-make, everyOf-both}
 use Rattle.el.specs.Table.{Line, Table, declared, lineDeclared, roleOrder}
-use Rattle.el.specs.RoleLaws.{roleOrder-refl, roleOrder-trans}
+use Rattle.el.specs.Description.{sameRole}
+use Rattle.el.specs.RoleLaws.{no-role-rows, roleOrder-refl, roleOrder-trans}
 use Rattle.el.specs.TableLaws.{role-rows-declared, rows-declared, lines-declared}
 use Rattle.el.specs.Assignment.{Assignment, Solves, induced}
 use Rattle.el.specs.Locality.{Solvable}
@@ -141,13 +143,17 @@ module _ (f : File) (known : T (allKnown f)) where
   is-declared : T (declared table)
   is-declared = flat-declared under (roleOrder-refl table) (roleOrder-trans table) f known
 
-  no-role-rows : table .roleRows ≡ []
+  none-there : table .roleRows ≡ []
   unfolding flatTable tableOf
-  no-role-rows = refl
+  none-there = refl
+
+  -- "by 01's order": the table of a file has no role rows, so each role lies under itself alone
+  pub flat-order : under ≡ sameRole
+  flat-order = no-role-rows table none-there
 
   is-table : InBounds table → IsTable (bytesOf 1 table) table
   unfolding IsTable
-  is-table x = (1, refl, in-fits table no-role-rows is-declared x)
+  is-table x = (1, refl, in-fits table none-there is-declared x)
 
   -- "that table has a solving assignment exactly if some substitution makes all the file's axioms hold by 01's order"
   solvable : Joinable under f ↔ Solvable under table

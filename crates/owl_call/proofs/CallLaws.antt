@@ -1,5 +1,6 @@
 -- Laws of the call.
 --
+--   constants-few, constants-many, .. == how many names there are
 --   counts-all, counts-none, counted-make == whether the counts are within their bounds
 --   counted-small, lines-room == numbers that the code adds
 --   header-as, table-put == header, rows and lines, one after the other
@@ -37,6 +38,8 @@ use Rattle.owl.specs.FlatteningLaws.{flat-declared}
 use Rattle.owl.specs.Restriction.{standing, restrictionsOf, sameRestriction, rowsFor}
 use Rattle.owl.specs.RestrictionLaws.{fresh-said}
 use Rattle.owl.specs.RowLaws.{rows-once, rows-length}
+use Rattle.owl_name.specs.Declared.{UpTo}
+use Rattle.owl_name.proofs.NumberLaws.{constants-count, opens-count, roles-count}
 use Rattle.owl_line.specs.Sides.{small, smallLine, Few, Done}
 use Rattle.owl_make.specs.Lines.{opensIn, LinesDone}
 use Rattle.owl_table.specs.Rows.{smallRow, rowsOf, PutRows}
@@ -71,6 +74,31 @@ pub table-put : (s : List ℕ) (opens c r v e m : ℕ) (lines b b′ : List ℕ)
     Appended b″ j lines a end → PutTable s opens c r v e m lines b a end
 unfolding PutTable PutRows
 table-put s opens c r v e m lines b b′ i b″ j a end x y w small = appended-then x (appended-then (y small) w)
+
+-- how many names there are, where they are no more than `most`; else they are more
+pub constants-few : (s : List ℕ) (most r : ℕ) → UpTo s 0 most r → r ≤ most → r ≡ constantsIn s
+unfolding UpTo
+constants-few s most r x h = x .0 h ∙ constants-count s
+
+pub constants-many : (s : List ℕ) (most r : ℕ) → UpTo s 0 most r → most < r → most < constantsIn s
+unfolding UpTo
+constants-many s most r x h = subst (λ (k : ℕ). most < k) (constants-count s) (x .1 h)
+
+pub opens-few : (s : List ℕ) (most r : ℕ) → UpTo s 1 most r → r ≤ most → r ≡ opensIn s
+unfolding UpTo
+opens-few s most r x h = x .0 h ∙ opens-count s
+
+pub opens-many : (s : List ℕ) (most r : ℕ) → UpTo s 1 most r → most < r → most < opensIn s
+unfolding UpTo
+opens-many s most r x h = subst (λ (k : ℕ). most < k) (opens-count s) (x .1 h)
+
+pub roles-few : (s : List ℕ) (most r : ℕ) → UpTo s 2 most r → r ≤ most → r ≡ rolesIn s
+unfolding UpTo
+roles-few s most r x h = x .0 h ∙ roles-count s
+
+pub roles-many : (s : List ℕ) (most r : ℕ) → UpTo s 2 most r → most < r → most < rolesIn s
+unfolding UpTo
+roles-many s most r x h = subst (λ (k : ℕ). most < k) (roles-count s) (x .1 h)
 
 -- what the code asks
 pub counted-small : (s : List ℕ) (c r o v e : ℕ) → Counted s c r o v e → (c ≤ 255) × (r ≤ 255) × (v ≤ 255) × (e ≤ maxAtoms)

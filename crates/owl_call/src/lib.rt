@@ -33,27 +33,28 @@ fn none() -> Totals
     }
 }
 
+// Names are counted first, and no further than their bounds.
 fn counts(s: &[u8]) -> Totals
     ensures { λ r. ⌜ CountsAre (now (s .entry)) (r .within) (r .constants) (r .roles) (r .opens) (r .variables) (r .rows) ⌝ }
 {
-    let constants = owl_name::constants(s);
+    let constants = owl_name::up_to(s, 0, bounds::MAX_ATOMS);
     if bounds::MAX_ATOMS < constants {
         return none();
     }
-    let rows = owl_row::rows(s);
-    if bounds::MAX_ATOMS - constants < rows {
-        return none();
-    }
-    let roles = owl_name::roles(s);
+    let roles = owl_name::up_to(s, 2, bounds::MAX_ROLES);
     if bounds::MAX_ROLES < roles {
         return none();
     }
-    let opens = owl_name::opens(s);
+    let opens = owl_name::up_to(s, 1, bounds::MAX_VARIABLES);
     if bounds::MAX_VARIABLES < opens {
         return none();
     }
     let fresh = owl_row::fresh(s);
     if bounds::MAX_VARIABLES - opens < fresh {
+        return none();
+    }
+    let rows = owl_row::rows(s);
+    if bounds::MAX_ATOMS - constants < rows {
         return none();
     }
     Totals {

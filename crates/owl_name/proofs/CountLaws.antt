@@ -1,5 +1,6 @@
 -- How many different names of a group are declared before a byte, token by token.
 --
+--   over-end, over-most == a count that stops where it is more than `most`
 --   Counting       == the byte `at` was reached, and so many different names of the group stand before it and the limit
 --   counting-start, counting-turn, counting-end, counting-limit == token by token
 use mathlib.Core.Path.{_≡_, refl, sym, ap, ap₂, subst, _∙_}
@@ -9,7 +10,7 @@ use Prim.Native.Nat.{ℕ, zero, suc, _+_, _-_, _≤_, _<_}
 use native.Mathlib.Omega.{arith}
 use lib.Dec.{eqb, ltb}
 use lib.ListN.{length, take, drop}
-use borrow.Author.Tests.{lt-ltb}
+use borrow.Author.Tests.{lt-ltb, ne-eqb}
 use Rattle.owl.specs.Once.{place}
 use Rattle.owl.specs.Tree.{Name}
 use Rattle.owl.specs.Naming.{sameName}
@@ -17,7 +18,8 @@ use Rattle.owl.specs.NamingLaws.{sameName-refl, sameName-means}
 use Rattle.owl.specs.Token.{placeAt, kindAt, endAt}
 use Rattle.owl.specs.Grammar.{isName}
 use Rattle.owl.specs.Mention.{sortAfter, nameBy, nameAt, Placed, mentioned, placedAt, placed, firstPlace}
-use Rattle.owl_name.specs.Declared.{restOf, declares, declaredAt, inGroup, inside, placeIn, nameIn, adding, different, oneIf}
+use Rattle.owl.specs.UndeclaredLaws.{place-within}
+use Rattle.owl_name.specs.Declared.{restOf, declares, declaredAt, inGroup, inside, placeIn, nameIn, adding, different, UpTo, oneIf}
 use Rattle.owl_name.proofs.RestLaws.{rest-start, rest-end, rest-turn, AtToken, token-name, token-goes}
 use Rattle.owl_name.proofs.AddLaws.{idle-out, own-name}
 use Rattle.owl_name.proofs.GroupLaws.{placed-rising, all-rising, inside-rising, inside-first}
@@ -58,6 +60,20 @@ counting-limit s g limit at does count k p e c t l =
     (ordered.before-none placeIn limit (placeAt s at) (length s) (inside g (restOf s at does))
     (inside-rising g (placeAt s at) (length s) (restOf s at does) (placed-rising s (suc (length s - at)) at does (c .within)))
     (let d : p ≡ placeAt s at = t .1 in let y : limit ≤ placeAt s at = omega arith in y))
+
+pub over-end : (s : List ℕ) (g most at does count k p e : ℕ) → Counting s g (length s) at does count → AtToken s at k p e → k ≡ 0 → count ≤ most → UpTo s g most count
+unfolding UpTo
+over-end s g most at does count k p e c t z l = ((λ h. counting-end s g (length s) at does count k p e c t z), (λ h. absurd (let y : ⊥ = omega arith in y)))
+
+pub over-most : (s : List ℕ) (g most at does count : ℕ) → Counting s g (length s) at does count → most < count → UpTo s g most count
+unfolding UpTo different
+over-most s g most at does count c l =
+    let h : count ≤ different s g (length s) = ordered.counted-le placeIn nameIn sameName sameName-refl sameName-means (inside g (placed s)) (length s) at count (inside g (restOf s at does)) (c .counted) in
+    ((λ z. absurd (let y : ⊥ = omega arith in y)), (λ z. omega arith))
+
+-- a token begins in the text
+pub in-text : (s : List ℕ) (at k p e : ℕ) → AtToken s at k p e → (k ≡ 0 → ⊥) → p < length s
+in-text s at k p e t z = let h : placeAt s at < length s = place-within s at (ne-eqb (kindAt s at) 0 (λ y. z (t .0 ∙ y))) in let d : p ≡ placeAt s at = t .1 in omega arith
 
 -- a mention, in the group or not
 mention-turn : (s : List ℕ) (g limit at does count to next : ℕ) (x : Placed) → Counting s g limit at does count → restOf s at does ≡ x ∷ restOf s to next → x .place < limit → at < to →

@@ -8,19 +8,19 @@
 --   count-more                        == how many different keys there are with one thing more
 --   place-count                       == a key's place among the different ones is the number of different ones before the first that has it
 --   Counting                          == the things `own` were passed, `rest` is left, and so many different keys were before the limit
---   counting-start, counting-idle, counting-next, counted == one by one
+--   counting-start, counting-idle, counting-next, counted, counted-le == one by one
 use mathlib.Core.Path.{_≡_, refl, sym, ap, ap₂, subst, _∙_}
 use mathlib.Core.Bool.{Bool, true, false, _||_, not}
 use mathlib.Core.List.{List, [], _∷_, _++_, append-nil}
 use Prim.Native.Nat.{ℕ, suc, _+_, _≤_, _<_}
 use native.Mathlib.Omega.{arith}
 use lib.Dec.{T, eqb, eqb-refl, ltb}
-use lib.ListN.{length}
+use lib.ListN.{length, length-append}
 use borrow.Author.Tests.{ne-eqb, lt-ltb, le-ltb}
 use Rattle.el.specs.Test.{anyOf}
 use Rattle.el.specs.TestLaws.{is-true}
 use Rattle.owl.specs.Once.{isAmong, place, once}
-use Rattle.owl.specs.DistinctLaws.{among-last, once-after, place-none, place-once}
+use Rattle.owl.specs.DistinctLaws.{among-last, once-append, once-after, place-none, place-once}
 use Rattle.owl_name.specs.Ordered.{before, Rising, keys, firstOf, differentBefore}
 use Rattle.owl_name.specs.Declared.{oneIf}
 
@@ -205,6 +205,33 @@ module _ {X : Type 0} (placeOf : X → ℕ) where
       unfolding differentBefore
       counted all limit at count rest c e =
           c .many ∙ ap (λ (l : List X). length (once same [] (keys placeOf keyOf l))) (sym (c .cut ∙ ap (λ (l : List X). c .own ++ l) e ∙ append-nil (c .own)))
+
+      once-grows : (l seen : List A) → length seen ≤ length (once same seen l)
+      unfolding once
+      once-grows [] seen = omega arith
+      once-grows (x ∷ l) seen = go (isAmong same x seen) (once-grows l seen) (once-grows l (seen ++ (x ∷ [])))
+        where
+          go : (b : Bool) → length seen ≤ length (once same seen l) → length (seen ++ (x ∷ [])) ≤ length (once same (seen ++ (x ∷ [])) l) →
+              length seen ≤ length {A = A} (elim b [ true ↦ once same seen l | false ↦ once same (seen ++ (x ∷ [])) l ])
+          go true h k = h
+          go false h k = let e : length (seen ++ (x ∷ [])) ≡ length seen + 1 = length-append seen (x ∷ []) in omega arith
+
+      keys-both : (pre post : List X) → keys placeOf keyOf (pre ++ post) ≡ keys placeOf keyOf pre ++ keys placeOf keyOf post
+      unfolding keys
+      keys-both [] post = refl
+      keys-both (y ∷ pre) post = ap (λ (l : List A). keyOf y ∷ l) (keys-both pre post)
+
+      -- what was counted is no more than all
+      pub counted-le : (all : List X) (limit at count : ℕ) (rest : List X) → Counting all limit at count rest → count ≤ differentBefore placeOf keyOf same limit all
+      unfolding differentBefore
+      counted-le all limit at count rest c =
+          let l : List A = keys placeOf keyOf (c .own) in
+          let m : List A = keys placeOf keyOf (before placeOf limit rest) in
+          let e : length (once same [] (keys placeOf keyOf (before placeOf limit all))) ≡ length (once same (once same [] l) m) =
+          ap (λ (k : List X). length (once same [] (keys placeOf keyOf k))) (c .cut) ∙ ap (λ (k : List A). length (once same [] k)) (keys-both (c .own) (before placeOf limit rest)) ∙ ap length (once-append same l m []) in
+          let g : length (once same [] l) ≤ length (once same (once same [] l) m) = once-grows m (once same [] l) in
+          let n : count ≡ length (once same [] l) = c .many in
+          omega arith
 
       pub counting-idle : (all : List X) (limit at count to : ℕ) (rest next : List X) → Counting all limit at count rest → rest ≡ next → at ≤ to → Counting all limit to (count + oneIf false) next
       unfolding oneIf

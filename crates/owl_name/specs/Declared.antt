@@ -11,11 +11,13 @@
 --   placeIn x, nameIn x    == a mention's byte and name
 --   different s g limit    == how many different names of the group are declared before byte `limit`
 --   adding s g does p k n  == a token of kind k at byte p, which does this to the name n, is the first declaration of a name of the group
+--   UpTo s g most r        == r is how many different names of the group the text s declares; or there are more than `most`, and r is more than `most`
 --   oneIf b                == 1 if b holds, else 0
 --   classNumber d n        == the number of n, among the open names or among the constants
+use mathlib.Core.Path.{_≡_}
 use mathlib.Core.Bool.{Bool, true, false, _&&_, _||_, not}
 use mathlib.Core.List.{List, [], _∷_}
-use Prim.Native.Nat.{ℕ, suc, _-_}
+use Prim.Native.Nat.{ℕ, suc, _-_, _≤_, _<_}
 use lib.Dec.{eqb}
 use lib.ListN.{length}
 use Rattle.owl.specs.Tree.{Name}
@@ -55,6 +57,9 @@ nameIn x = x .mention .name
 
 unfoldable pub different : List ℕ → ℕ → ℕ → ℕ
 different s g limit = differentBefore placeIn nameIn sameName limit (inside g (placed s))
+
+unfoldable pub UpTo : List ℕ → ℕ → ℕ → ℕ → Type 0
+UpTo s g most r = (r ≤ most → r ≡ different s g (length s)) × (most < r → most < different s g (length s))
 
 -- a name of the group, at its first declaration
 abbrev pub adding : List ℕ → ℕ → ℕ → ℕ → ℕ → Name → Bool

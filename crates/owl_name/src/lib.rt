@@ -9,7 +9,7 @@ ghost use lib.ListN.{length};
 ghost use Rattle.owl.specs.Naming.{sameBytes, beginsWith, sameName, isThing, isOpen, roleNumber};
 ghost use Rattle.owl.specs.Grammar.{isName};
 ghost use Rattle.owl.specs.Mention.{sortAfter, nameBy, mentioned, namesIn, isKnown, undeclared};
-ghost use Rattle.owl_name.specs.Declared.{declares, declaredAt, inGroup, adding, different, classNumber, oneIf};
+ghost use Rattle.owl_name.specs.Declared.{declares, declaredAt, inGroup, adding, different, UpTo, classNumber, oneIf};
 
 fn wide(x: u8) -> usize
     ensures { λ r. ⌜ r ≡ x ⌝ }
@@ -246,6 +246,31 @@ fn different(s: &[u8], group: u8, limit: usize) -> usize
             return count;
         }
         if limit <= place {
+            return count;
+        }
+        count += adds(s, group, does, place, kind, &s[place..end]);
+        does = sort_after(does, kind);
+        at = end;
+    }
+}
+
+// How many different names of the group are declared: 0 constants, 1 open names, 2 roles. Where there are more than `most`, the count goes no
+// further.
+pub fn up_to(s: &[u8], group: u8, most: usize) -> usize
+    ensures { λ r. ⌜ UpTo (now (s .entry)) group most r ⌝ }
+{
+    let mut at = 0;
+    let mut does = 0;
+    let mut count = 0;
+    loop {
+        let t = owl_token::token_at(s, at);
+        let kind = t.kind;
+        let place = t.place;
+        let end = t.end;
+        if most < count {
+            return count;
+        }
+        if kind == 0 {
             return count;
         }
         count += adds(s, group, does, place, kind, &s[place..end]);

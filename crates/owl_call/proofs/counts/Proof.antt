@@ -1,5 +1,4 @@
 -- By the first bound that is passed.
-use Prim.Native.Nat.{_≤_}
 use native.Mathlib.Omega.{arith}
 use borrow.Author.Needs.{needs}
 use Rattle.owl_call.proofs.CallLaws as laws

@@ -4,15 +4,12 @@ use borrow.Author.Needs.{needs}
 use Rattle.owl_call_c.proofs.makrothel_owl.Statement.{statement}
 use Rattle.owl_call_c.proofs.makrothel_owl.Tie as tie
 
--- src/lib.rt:9:9
 owl-requires : tie.Need-owl-requires
 owl-requires c κs = search needs
 
--- src/lib.rt:5:1
 same-length : tie.Need-same-length
 same-length c = search needs
 
--- src/lib.rt:5:1
 returns : tie.Need-returns
 returns c = laws.owl-in _ _ _ _ _ _ (c .before .before .before .owl .ensures)
 

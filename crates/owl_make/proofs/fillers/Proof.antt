@@ -16,39 +16,30 @@ Inv-loop s opens out₀ passed₀ at₀ does₀ n₀ out passed at does n = (at 
 abbrev μ-loop : tie.MeasureT-loop
 μ-loop s opens out₀ passed₀ at₀ does₀ n₀ out passed at does n = length s - at
 
--- src/lib.rt:74:9
 first-item-requires : tie.Need-first-item-requires Inv-loop μ-loop
 first-item-requires c κs = search needs
 
--- src/lib.rt:77:5
 loop-holds : tie.Need-loop-holds Inv-loop μ-loop
 loop-holds c = (c .first-item .ensures .1, omega arith, c .before .before .before .pre, refl, laws.fillers-start _ _ _ _ _ _ _ (c .first-item .ensures .0))
 
--- src/lib.rt:78:13
 next-filler-requires : tie.Need-next-filler-requires Inv-loop μ-loop
 next-filler-requires c κs = c .loop .inv .0
 
--- src/lib.rt:81:13
 same-length : tie.Need-same-length Inv-loop μ-loop
 same-length c = c .before .before .before .loop .inv .3
 
--- src/lib.rt:81:13
 returns : tie.Need-returns Inv-loop μ-loop
 returns c = (laws.fillers-end _ _ _ _ _ _ _ _ _ _ _ _ _ (c .before .before .before .loop .inv .4) _ _ (c .before .before .next-filler .ensures .0) (not-true _ (c .if1 .taken)), c .before .before .before .loop .inv .2, c .before .before .before .loop .inv .3)
 
--- src/lib.rt:83:9
 one-filler-requires : tie.Need-one-filler-requires Inv-loop μ-loop
 one-filler-requires c κs = (c .before .before .before .next-filler .ensures .2, c .before .before .before .before .loop .inv .2)
 
--- src/lib.rt:85:9
 add-n : tie.Need-add-n Inv-loop μ-loop
 add-n c = let goes = c .before .before .before .before .before .before .next-filler .ensures .1 (not-false _ (c .before .before .before .before .if1 .left)) in let far = c .before .before .before .before .before .before .next-filler .ensures .2 in let small = c .before .before .before .before .before .before .before .loop .inv .1 in omega arith
 
--- src/lib.rt:77:5
 loop-less : tie.Need-loop-less Inv-loop μ-loop
 loop-less c = let goes = c .before .before .before .before .before .before .next-filler .ensures .1 (not-false _ (c .before .before .before .before .if1 .left)) in let far = c .before .before .before .before .before .before .next-filler .ensures .2 in omega arith
 
--- src/lib.rt:77:5
 loop-again : tie.Need-loop-again Inv-loop μ-loop
 loop-again c = let goes = c .before .before .before .before .before .before .next-filler .ensures .1 (not-false _ (c .before .before .before .before .if1 .left)) in let far = c .before .before .before .before .before .before .next-filler .ensures .2 in let small = c .before .before .before .before .before .before .before .loop .inv .1 in (c .before .before .before .before .before .before .next-filler .ensures .2, omega arith, c .before .before .one-filler .ensures .1, c .before .before .one-filler .ensures .2 ∙ c .before .before .before .before .before .before .before .loop .inv .3, laws.fillers-turn _ _ _ _ _ _ _ _ _ _ _ _ (c .before .before .before .before .before .before .before .loop .out) (c .before .before .before .before .before .before .before .loop .inv .4) _ _ (c .before .before .before .before .before .before .next-filler .ensures .0) _ _ _ _ (not-false _ (c .before .before .before .before .if1 .left)) (c .before .before .before .before .before .before .next-filler .ensures .2) (c .before .before .one-filler .ensures .0))
 

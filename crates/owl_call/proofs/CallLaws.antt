@@ -6,12 +6,12 @@
 --   header-as, table-put == header, rows and lines, one after the other
 --   counts-over, lines-over, too-short, all-made == each answer to a text whose names are declared
 --   call-spoiled, call-unknown, call-said == each answer to a text
-use mathlib.Core.Path.{_≡_, refl, sym, ap, ap₂, subst, _∙_}
+use mathlib.Core.Path.{_≡_, sym, ap, ap₂, subst, _∙_}
 use mathlib.Core.Bool.{Bool, true, false}
-use mathlib.Core.List.{List, [], _∷_, _++_, flatMap}
-use Prim.Native.Nat.{ℕ, suc, _+_, _*_, _≤_, _<_}
+use mathlib.Core.List.{List, [], _++_, flatMap}
+use Prim.Native.Nat.{ℕ, _+_, _*_, _≤_, _<_}
 use native.Mathlib.Omega.{arith}
-use lib.Dec.{T, leb, leb→le, ltb, ltb→lt}
+use lib.Dec.{T, ltb, ltb→lt}
 use lib.ListN.{length, take, drop, length-append, take-append-drop}
 use borrow.Author.Tests.{lt-ltb}
 use Rattle.el.specs.Test.{everyOf}
@@ -19,9 +19,10 @@ use Rattle.el.specs.TestLaws.{and-make, and-left, and-right, true-is, everyOf-b
 use Rattle.el.specs.Table.{Filler, topF, constantF, variableF, Entry, constant, restriction, variable, Row, Line, Table, fillerDeclared, rowDeclared, entryDeclared, lineDeclared, declared, roleOrder}
 use Rattle.el.specs.RoleLaws.{roleOrder-refl, roleOrder-trans}
 use Rattle.el.specs.TableLaws.{rows-declared, lines-declared}
-use Rattle.bounds.specs.Bounds.{maxAtoms, maxRoles, maxVariables, maxLines, maxLeft, maxRoleRows}
+use Rattle.bounds.specs.Bounds.{maxAtoms, maxRoles, maxVariables, maxLines, maxRoleRows}
 use Rattle.table.specs.Reading.{hasRoleRows}
-use Rattle.table.specs.Bytes.{fillerCode, entryCode, writtenRoleCount, writtenHeader, writtenRow, writtenEntry, writtenLine, bytesWith, countsOf, bytesOf, longestLine}
+use Rattle.table.specs.Bytes.{fillerCode, entryCode, writtenRoleCount, writtenHeader, writtenRow, writtenLine, bytesWith, countsOf, bytesOf, longestLine}
+use Rattle.table.specs.LengthLaws.{rows-length as row-bytes, lines-length}
 use Rattle.text.specs.Append.{Appended}
 use Rattle.text.specs.AppendLaws.{appended-then, appended-as, appended-whole, appended-room}
 use Rattle.owl.specs.Once.{once}
@@ -115,30 +116,6 @@ counted-small s c r o v e x =
 pub lines-room : (s : List ℕ) (wide : Bool) (m end : ℕ) (lines : List ℕ) → LinesIn s wide m end lines → length lines ≡ linesRoom
 unfolding LinesIn
 lines-room s wide m end lines x = x .2
-
-----------------------------------------------------------------------------------------------------
--- Lengths
-
-rows-bytes : (rows : List Row) → length (flatMap writtenRow rows) ≡ 2 * length rows
-unfolding flatMap writtenRow
-rows-bytes [] = refl
-rows-bytes (row ∷ rows) = let ih : length (flatMap writtenRow rows) ≡ 2 * length rows = rows-bytes rows in omega arith
-
-entries-bytes : (xs : List Entry) → length (flatMap writtenEntry xs) ≡ length xs
-unfolding flatMap writtenEntry
-entries-bytes [] = refl
-entries-bytes (x ∷ xs) = ap suc (entries-bytes xs)
-
-lines-bytes : (lines : List Line) → T (everyOf (λ (l : Line). leb (length (l .left)) maxLeft) lines) → length (flatMap writtenLine lines) ≤ longestLine * length lines
-unfolding flatMap everyOf writtenLine writtenEntry
-lines-bytes [] t = omega arith
-lines-bytes (l ∷ lines) t =
-    let few : length (l .left) ≤ maxLeft = leb→le (length (l .left)) maxLeft (and-left (leb (length (l .left)) maxLeft) (everyOf (λ (l : Line). leb (length (l .left)) maxLeft) lines) t) in
-    let left : length (flatMap writtenEntry (l .left)) ≡ length (l .left) = entries-bytes (l .left) in
-    let one : length (flatMap writtenEntry (l .left) ++ (entryCode (l .right) ∷ [])) ≡ length (flatMap writtenEntry (l .left)) + 1 = length-append (flatMap writtenEntry (l .left)) (entryCode (l .right) ∷ []) in
-    let ih : length (flatMap writtenLine lines) ≤ longestLine * length lines = lines-bytes lines (and-right (leb (length (l .left)) maxLeft) (everyOf (λ (l : Line). leb (length (l .left)) maxLeft) lines) t) in
-    let both : length (writtenLine l ++ flatMap writtenLine lines) ≡ length (writtenLine l) + length (flatMap writtenLine lines) = length-append (writtenLine l) (flatMap writtenLine lines) in
-    omega arith
 
 ----------------------------------------------------------------------------------------------------
 -- Codes are small where the counts are within their bounds
@@ -261,7 +238,7 @@ module _ (s : List ℕ) (f : File) (e : Says s f) (known : T (allKnown f)) where
       let d = x .3 f e known .1 z in
       let put : Appended (x .0) 0 lineBytes lines end = d .2 (smalls w .1) in
       let few : length (table .lines) ≤ maxLines = d .0 .few in
-      let long : length lineBytes ≤ longestLine * length (table .lines) = lines-bytes (table .lines) (d .0 .short) in
+      let long : length lineBytes ≤ longestLine * length (table .lines) = lines-length (table .lines) (d .0 .short) in
       let room : length (x .0) ≡ linesRoom = x .1 in
       let whole = appended-whole put (omega arith) in
       (d .0, d .1, whole .1 ∙ ap length (whole .2), whole .2, whole .0)
@@ -282,7 +259,7 @@ module _ (s : List ℕ) (f : File) (e : Says s f) (known : T (allKnown f)) where
   table-length : length (bytesOf 1 table) ≡ 10 + 2 * rowCount s + length lineBytes
   unfolding bytesOf bytesWith hasRoleRows writtenRoleCount writtenHeader countsOf flatTable tableOf flatMap
   table-length =
-      let a : length (flatMap writtenRow (table .rows)) ≡ 2 * length (table .rows) = rows-bytes (table .rows) in
+      let a : length (flatMap writtenRow (table .rows)) ≡ 2 * length (table .rows) = row-bytes (table .rows) in
       let b : length (flatMap writtenRow (table .rows) ++ lineBytes) ≡ length (flatMap writtenRow (table .rows)) + length lineBytes = length-append (flatMap writtenRow (table .rows)) lineBytes in
       let c : length (table .rows) ≡ rowCount s = is-count in
       omega arith

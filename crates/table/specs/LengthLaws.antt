@@ -1,6 +1,6 @@
 -- How long tables are, and what of a longer input is looked at.
 --
---   role-rows-length, rows-length, lines-length == the bytes of role rows, of rows, and of lines that are right
+--   role-rows-length, rows-length, lines-length == the bytes of role rows, of rows, and of lines that are short enough
 --   begun-length   == bytes that are right so far are no longer than the longest table
 --   longest        == "The longest readable table has 698 bytes.", and 763 in version 2
 --   place-fits     == so where a line begins is no larger
@@ -17,7 +17,7 @@ use lib.Dec.{T, eqb, leb, leb→le}
 use lib.ListN.{length, take, length-append}
 use lib.Seq.{take-all, length-take-le, getD-take, take-append-add}
 use Rattle.el.specs.Test.{everyOf}
-use Rattle.el.specs.TestLaws.{and-left, and-right}
+use Rattle.el.specs.TestLaws.{and-left, and-right, everyOf-both}
 use Rattle.el.specs.Roles.{RoleRow}
 use Rattle.el.specs.Table.{Entry, Row, Line, Table, lineDeclared}
 use Rattle.bounds.specs.Bounds.{bounds, maxAtoms, maxLines, maxLeft, maxRoleRows}
@@ -48,22 +48,30 @@ unfolding flatMap writtenEntry
 entries-length [] = refl
 entries-length (x ∷ xs) = ap suc (entries-length xs)
 
-line-length : (t : Table) (l : Line) → T (lineRight t l) → length (writtenLine l) ≤ longestLine
-unfolding writtenLine lineRight writtenEntry
-line-length t l r =
-    let few : length (l .left) ≤ maxLeft = leb→le (length (l .left)) maxLeft (and-left (leb (length (l .left)) maxLeft) (lineDeclared t l) r) in
+-- "p at most 8"
+abbrev isShort : Line → Bool
+isShort l = leb (length (l .left)) maxLeft
+
+line-length : (l : Line) → T (isShort l) → length (writtenLine l) ≤ longestLine
+unfolding writtenLine writtenEntry
+line-length l r =
+    let few : length (l .left) ≤ maxLeft = leb→le (length (l .left)) maxLeft r in
     let left : length (flatMap writtenEntry (l .left)) ≡ length (l .left) = entries-length (l .left) in
     let both : length (flatMap writtenEntry (l .left) ++ writtenEntry (l .right)) ≡ length (flatMap writtenEntry (l .left)) + 1 = length-append (flatMap writtenEntry (l .left)) (writtenEntry (l .right)) in
     omega arith
 
-lines-length : (t : Table) (lines : List Line) → T (everyOf (lineRight t) lines) → length (flatMap writtenLine lines) ≤ longestLine * length lines
+pub lines-length : (lines : List Line) → T (everyOf isShort lines) → length (flatMap writtenLine lines) ≤ longestLine * length lines
 unfolding flatMap everyOf
-lines-length t [] r = omega arith
-lines-length t (l ∷ lines) r =
-    let first : length (writtenLine l) ≤ longestLine = line-length t l (and-left (lineRight t l) (everyOf (lineRight t) lines) r) in
-    let ih : length (flatMap writtenLine lines) ≤ longestLine * length lines = lines-length t lines (and-right (lineRight t l) (everyOf (lineRight t) lines) r) in
+lines-length [] r = omega arith
+lines-length (l ∷ lines) r =
+    let first : length (writtenLine l) ≤ longestLine = line-length l (and-left (isShort l) (everyOf isShort lines) r) in
+    let ih : length (flatMap writtenLine lines) ≤ longestLine * length lines = lines-length lines (and-right (isShort l) (everyOf isShort lines) r) in
     let both : length (writtenLine l ++ flatMap writtenLine lines) ≡ length (writtenLine l) + length (flatMap writtenLine lines) = length-append (writtenLine l) (flatMap writtenLine lines) in
     omega arith
+
+right-short : (t : Table) (lines : List Line) → T (everyOf (lineRight t) lines) → T (everyOf isShort lines)
+unfolding lineRight
+right-short t lines r = everyOf-both (lineRight t) (lineRight t) isShort lines (λ l a d. and-left (isShort l) (lineDeclared t l) a) r r
 
 -- role rows, rows and lines behind a header
 with-length : (h : Header) (roleRows : List RoleRow) (rows : List Row) (lines : List Line) → Right h roleRows rows lines
@@ -71,7 +79,7 @@ with-length : (h : Header) (roleRows : List RoleRow) (rows : List Row) (lines : 
 unfolding bytesWith
 with-length h roleRows rows lines right =
     let a : length (flatMap writtenRow rows) ≡ 2 * length rows = rows-length rows in
-    let b : length (flatMap writtenLine lines) ≤ longestLine * length lines = lines-length (tableWith h roleRows rows lines) lines (right .lines-right) in
+    let b : length (flatMap writtenLine lines) ≤ longestLine * length lines = lines-length lines (right-short (tableWith h roleRows rows lines) lines (right .lines-right)) in
     let c : length (flatMap writtenRow rows ++ flatMap writtenLine lines) ≡ length (flatMap writtenRow rows) + length (flatMap writtenLine lines) = length-append (flatMap writtenRow rows) (flatMap writtenLine lines) in
     let d : length (flatMap writtenRoleRow roleRows) ≡ 2 * length roleRows = role-rows-length roleRows in
     let behind = flatMap writtenRow rows ++ flatMap writtenLine lines in

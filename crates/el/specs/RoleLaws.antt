@@ -4,7 +4,7 @@
 --   reaches-role                        == the test decides the statement
 --   no-role-rows                        == without role rows each role reaches itself alone: version 1
 --   roleOrder-refl, roleOrder-trans     == the order of a table's roles is reflexive and transitive
---   roleOrder-means                     == it is what 02 says
+--   roleOrder-means                     == it is what a role reaches over the role rows
 --   serves-roles                        == Corollary 1's second question with it: a restriction whose role reaches s over the role rows
 use mathlib.Core.Path.{_≡_, refl, ap, subst}
 use mathlib.Core.Bool.{Bool, _&&_, _||_}

@@ -16,6 +16,7 @@ use native.Mathlib.Omega.{arith}
 use lib.Dec.{T}
 use lib.ListN.{length, take}
 use Rattle.bounds.specs.Bounds.{Bounds, bounds, maxAtoms, maxRoles, maxVariables, maxLines, maxLeft, maxRoleRows, setBytes}
+use Rattle.el.specs.Description.{sameRole}
 use Rattle.el.specs.Table.{roleOrder}
 use Rattle.el.specs.Meaning.{Substitution, makes}
 use Rattle.el.specs.Assignment.{Assignment}
@@ -37,6 +38,7 @@ use Rattle.makrothel.specs.Grown.{roleRowBytes, rowBytes, lineBytes, Gro
 use Rattle.makrothel.specs.Demand1.{is-table, demand-1-row, demand-1-only, demand-1-number, demand-1-refused, demand-1-short, demand-1-kept, demand-1-written, demand-1-read-refused, demand-1-read}
 use Rattle.makrothel.specs.Demand2.{demand-2-solved, demand-2-none, demand-2-budget, demand-2-no-budget, demand-2-decides, demand-2-solved-exactly, demand-2-none-exactly, demand-2-budget-exactly}
 use Rattle.makrothel.specs.Demand3.{demand-3-none, demand-3-solved, demand-3-grown, demand-3-widened, demand-3-budget}
+use Rattle.makrothel.specs.Versions.{version-one-order}
 use Rattle.makrothel.specs.Cases.{Case, p5, p8, p9, p12, r1, r2, r4, r5, Is, Answers, cases-hold}
 
 -- an output of eight bytes has room for two variables
@@ -324,6 +326,11 @@ pub role-row-needed :
     × (rowBytes (r2 .bytes) ≡ rowBytes (r1 .bytes)) × (lineBytes (r2 .bytes) ≡ lineBytes (r1 .bytes)) × (Grown (r1 .bytes) (r2 .bytes) → ⊥)
 unfolding rowBytes lineBytes headerEnd roleCount hasRoleRows
 role-row-needed = (r1-none, r2-solved, refl, refl, refl, λ g. demand-3-grown (r1 .bytes) (r2 .bytes) g 1 1 [] [] r1-none r2-solved)
+
+-- P8 is of version 1
+pub p8-roles : roleOrder (tableOf (p8 .bytes)) ≡ sameRole
+unfolding reading readBody readLine readCode readPair readMany readHeader readCounts headerEnd roleCount hasRoleRows versionKnown marked roleOf entryOf entryOfKind fillerOf fillerOfKind within kindOf
+p8-roles = version-one-order (p8 .bytes) tt refl
 
 -- the reader hands back q
 pub r4-read : readAnswer (reading (r4 .bytes)) ≡ record { number = 0; place = 0; constants = 1; roles = 3; variables = 0; restrictions = 2; lines = 2; inclusions = 3 }

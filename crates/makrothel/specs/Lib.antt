@@ -8,5 +8,6 @@ pub mod Demand1
 pub mod Demand2
 pub mod Demand3
 pub mod Cases
+pub mod Versions
 pub mod Instances
 pub mod C

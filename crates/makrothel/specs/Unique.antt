@@ -1,6 +1,6 @@
 -- What the promises of the public calls pin: two results that meet a promise on the same input are equal.
 --
---   read-unique == of the reader: number, place and the five counts
+--   read-unique == of the reader: number, place and the counts
 --   line-unique == of the line call: the contents of the part, and where it begins
 --   solve-unique == of the solver: number, count, place and the output afterwards
 --   line-length == a line that is there has p + 2 bytes

@@ -281,7 +281,7 @@ pub fn listing(table: &[u8], a: Handed, output: &[u8], buffer: &mut [u8]) -> usi
     put_solved(table, output, buffer, end)
 }
 
-// Numbers as a line: the reader's answer is number, place and the five counts.
+// Numbers as a line: the reader's answer is number, place and the counts.
 pub fn read_line(numbers: &[usize], buffer: &mut [u8]) -> usize
     ensures { λ r. ⌜ Appended (now (buffer .entry)) 0 (readText (now (numbers .entry))) (now (buffer .exit)) r ⌝ }
 {

@@ -7,7 +7,7 @@
 --   Is k out r  == the answer r has the case's number and count, place 0, and its sets written to `out`
 --   Answers k   == for every such budget and every output with room the answer is so
 --   cases-hold  == every case answers so
---   Refusal     == an input that is refused, with its number and place
+--   Refusal     == an input that is refused, and the answer
 --   refusals    == those of version 2, and of other versions
 --   Refuses k   == for every budget and every output the answer is that refusal, and the output stays; and the reader answers so
 --   refusals-hold == every one of them is so refused
@@ -191,7 +191,7 @@ Answers k =
     (b : ℕ) → Under (k .budgets) b → (out : List ℕ) → setBytes * k .variables ≤ length out
     → Is k out (answer (k .bytes) b out)
 
-abbrev pub Every : (Case → Type 0) → List Case → Type 0
+abbrev pub Every : {A : Type 0} → (A → Type 0) → List A → Type 0
 Every P [] = Unit {0}
 Every P (k ∷ ks) = P k × Every P ks
 
@@ -237,7 +237,7 @@ pub record Refusal : Type 0 where
   pub input : List ℕ
   pub because : Answer
 
--- ten bytes, version 2, good counts; with m 65; q 33 as the last byte; r 0, q 1; r 1, q 1, row 0, 1; version 3; version 0x0102
+-- ten bytes, version 2, good counts; with m 65; q 33 as the last byte; r 0, q 1; r 1, q 1, row 0, 1; the same without its last byte; version 3; version 0x0102
 abbrev pub refusals : List Refusal
 refusals =
     record { input = marked-as 2 0 (counts 1 1 1 0 0); because = EndsEarly 10 }
@@ -253,21 +253,17 @@ refusals =
 unfoldable pub Refuses : Refusal → Type 0
 Refuses k = ((b : ℕ) (out : List ℕ) → answer (k .input) b out ≡ answered (k .because) out) × (readAnswer (reading (k .input)) ≡ readAs (k .because) zeros)
 
-abbrev pub All : (Refusal → Type 0) → List Refusal → Type 0
-All P [] = Unit {0}
-All P (k ∷ ks) = P k × All P ks
-
 refused-so : (k : Refusal) → reading (k .input) ≡ refusal (k .because) → Refuses k
 unfolding Refuses
 refused-so k e = let r = refused-means (k .input) (k .because) e in ((λ b out. answer-refused (k .input) b out (k .because) r), demand-1-read-refused (k .input) (k .because) r)
 
-all-so : (ks : List Refusal) → All (λ k. reading (k .input) ≡ refusal (k .because)) ks → All Refuses ks
+all-so : (ks : List Refusal) → Every (λ k. reading (k .input) ≡ refusal (k .because)) ks → Every Refuses ks
 all-so [] c = tt
 all-so (k ∷ ks) c = (refused-so k (c .0), all-so ks (c .1))
 
-refused-computed : All (λ k. reading (k .input) ≡ refusal (k .because)) refusals
+refused-computed : Every (λ k. reading (k .input) ≡ refusal (k .because)) refusals
 unfolding reading readBody readLine readCode readPair readMany readHeader readCounts headerEnd roleCount hasRoleRows versionKnown marked roleOf entryOf entryOfKind fillerOf fillerOfKind within kindOf
 refused-computed = (refl, (refl, (refl, (refl, (refl, (refl, (refl, (refl, tt))))))))
 
-pub refusals-hold : All Refuses refusals
+pub refusals-hold : Every Refuses refusals
 refusals-hold = all-so refusals refused-computed

@@ -2,8 +2,8 @@
 //
 // A table is read in byte order: its header, its role rows, its rows, its lines, and nothing after them. Each reader answers the place
 // after what it read, or the refusal, and rows and lines are read under the header that is handed to them. The crates above ask for a
-// table's counts, for the two roles of a role row, for the role and the filler of a row, and for the byte where a line begins; no other
-// crate knows where these stand, or of which version a table is.
+// table's counts, for the two roles of a role row, for the role and the filler of a row, and for the byte where a line begins; roles, order,
+// node, level and walk know neither where these stand nor of which version a table is.
 ghost use mathlib.Core.Path.{_≡_};
 ghost use Prim.Native.Nat.{_≤_, _<_};
 ghost use lib.Dec.{T};

@@ -23,7 +23,7 @@ static void ask(const struct draft *draft, u32 budget)
     static struct question question;
     question.kind = KIND_SOLVE;
     question.number = budget < most ? budget : most;
-    question.room = 4 * draft->v;
+    question.room = 8 * draft->v;
     question.length = write_draft(draft, question.table);
     put_question(&question);
 }

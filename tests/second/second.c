@@ -1,8 +1,9 @@
 /* The second solver of Makrothel. See second.h.
 
-   A set of non-variable atoms is a bit mask: bit k for constant k, bit c + k
-   for restriction k. A conjunction of atoms is the union of their sets, so a
-   line asks whether one set lies below another.
+   A set of non-variable atoms is a bit mask of 64 bits: bit k for constant k, bit
+   c + k for restriction k. A conjunction of atoms is the union of their sets, so a
+   line asks whether one set lies below another. A mask of roles, of rows or of
+   variables has 32 bits, as there are at most 32 of each.
 
    What the role rows say is worked out once for a table, by a search from each
    role, and kept as a mask of rows for each row. */
@@ -11,12 +12,15 @@
 
 enum {
     HEADER = 10,         /* bytes up to the five counts */
-    MOST_ATOMS = 24,     /* c + e */
+    MOST_CONSTANTS = 32,
+    MOST_ROWS = 32,      /* e */
+    MOST_ATOMS = 56,     /* c + e */
     MOST_ROLES = 16,
-    MOST_VARIABLES = 12,
+    MOST_VARIABLES = 24,
     MOST_LINES = 64,
     MOST_LEFT = 8,       /* p */
-    MOST_ROLE_ROWS = 32  /* q */
+    MOST_ROLE_ROWS = 32, /* q */
+    SET_BYTES = 8        /* of a variable's set in the output */
 };
 
 /* ---- A table, decoded */
@@ -50,9 +54,9 @@ struct table {
     u32 version;
     u32 c, r, v, e, m, q;
     struct role_row role_rows[MOST_ROLE_ROWS];
-    struct row rows[MOST_ATOMS];
+    struct row rows[MOST_ROWS];
     struct line lines[MOST_LINES];
-    u32 under[MOST_ATOMS]; /* bit i of under[j]: the role of row i lies under that of row j */
+    u32 under[MOST_ROWS]; /* bit i of under[j]: the role of row i lies under that of row j */
 };
 
 /* Where a reader stands. `number` is 0 until the table is refused, and then
@@ -142,10 +146,10 @@ static void read_header(struct reader *reader, struct table *table)
         return;
     }
     reader->at = 5;
-    table->c = next_byte(reader); /* judged with e */
+    table->c = next_count(reader, MOST_CONSTANTS);
     table->r = next_count(reader, MOST_ROLES);
     table->v = next_count(reader, MOST_VARIABLES);
-    table->e = next_byte(reader);
+    table->e = next_count(reader, MOST_ROWS);
     if (table->c + table->e > MOST_ATOMS) {
         refuse(reader, COUNT_OVER_BOUND, 8);
     }
@@ -284,12 +288,13 @@ static void enter_roles(struct table *table, const u32 *wider)
 
 /* ---- A node */
 
-/* Sets for variables 0 to chosen - 1. */
+/* Sets for variables 0 to chosen - 1. The sets themselves are the walk's, as the
+   nodes of one branch share them. */
 struct node {
-    u32 chosen;
-    u32 set[MOST_VARIABLES];
-    u32 reach[MOST_VARIABLES]; /* bit y of reach[x]: x depends on y over one or more steps */
+    u64 *set;
     u64 ready;                 /* bit i: line i is ready here */
+    u32 chosen;
+    u32 reach[MOST_VARIABLES]; /* bit y of reach[x]: x depends on y over one or more steps */
 };
 
 /* ---- The order between descriptions, after substitution */
@@ -298,18 +303,18 @@ struct node {
    row i lies below the filler of row j, where bit j of known[i] is set. */
 struct asking {
     const struct table *table;
-    const struct node *node;
-    u32 known[MOST_ATOMS];
-    u32 holds[MOST_ATOMS];
+    const u64 *set;
+    u32 known[MOST_ROWS];
+    u32 holds[MOST_ROWS];
 };
 
 /* The set of atoms whose conjunction a code stands for. */
-static u32 atoms_of(const struct asking *asking, struct code code)
+static u64 atoms_of(const struct asking *asking, struct code code)
 {
     switch (code.kind) {
-    case CONSTANT: return 1u << code.k;
-    case RESTRICTION: return 1u << (asking->table->c + code.k);
-    case VARIABLE: return asking->node->set[code.k];
+    case CONSTANT: return (u64)1 << code.k;
+    case RESTRICTION: return (u64)1 << (asking->table->c + code.k);
+    case VARIABLE: return asking->set[code.k];
     default: return 0;
     }
 }
@@ -317,14 +322,14 @@ static u32 atoms_of(const struct asking *asking, struct code code)
 static int filler_below_filler(struct asking *asking, u32 i, u32 j);
 
 /* Whether the conjunction of the set `left` lies below atom number `atom`. */
-static int below_atom(struct asking *asking, u32 left, u32 atom)
+static int below_atom(struct asking *asking, u64 left, u32 atom)
 {
     const struct table *table = asking->table;
     if (atom < table->c) {
         return left >> atom & 1;
     }
     u32 j = atom - table->c;
-    for (u32 rest = left >> table->c & table->under[j]; rest != 0; rest &= rest - 1) {
+    for (u32 rest = (u32)(left >> table->c) & table->under[j]; rest != 0; rest &= rest - 1) {
         if (filler_below_filler(asking, (u32)__builtin_ctz(rest), j)) {
             return 1;
         }
@@ -333,10 +338,10 @@ static int below_atom(struct asking *asking, u32 left, u32 atom)
 }
 
 /* Whether the conjunction of `left` lies below that of `right`. */
-static int below(struct asking *asking, u32 left, u32 right)
+static int below(struct asking *asking, u64 left, u64 right)
 {
-    for (u32 rest = right; rest != 0; rest &= rest - 1) {
-        if (!below_atom(asking, left, (u32)__builtin_ctz(rest))) {
+    for (u64 rest = right; rest != 0; rest &= rest - 1) {
+        if (!below_atom(asking, left, (u32)__builtin_ctzll(rest))) {
             return 0;
         }
     }
@@ -348,8 +353,8 @@ static int below(struct asking *asking, u32 left, u32 right)
 static int filler_below_filler(struct asking *asking, u32 i, u32 j)
 {
     if (!(asking->known[i] >> j & 1)) {
-        u32 left = atoms_of(asking, asking->table->rows[i].filler);
-        u32 right = atoms_of(asking, asking->table->rows[j].filler);
+        u64 left = atoms_of(asking, asking->table->rows[i].filler);
+        u64 right = atoms_of(asking, asking->table->rows[j].filler);
         u32 holds = (u32)below(asking, left, right);
         asking->holds[i] |= holds << j;
         asking->known[i] |= 1u << j;
@@ -359,7 +364,7 @@ static int filler_below_filler(struct asking *asking, u32 i, u32 j)
 
 static int line_holds(struct asking *asking, const struct line *line)
 {
-    u32 left = 0;
+    u64 left = 0;
     for (u32 i = 0; i < line->p; i++) {
         left |= atoms_of(asking, line->left[i]);
     }
@@ -369,10 +374,10 @@ static int line_holds(struct asking *asking, const struct line *line)
 /* ---- The walk */
 
 /* The variables on which a variable with this set depends directly. */
-static u32 dependences(const struct table *table, u32 set)
+static u32 dependences(const struct table *table, u64 set)
 {
     u32 variables = 0;
-    for (u32 rest = set >> table->c; rest != 0; rest &= rest - 1) {
+    for (u32 rest = (u32)(set >> table->c); rest != 0; rest &= rest - 1) {
         variables |= variable_in(table, table->rows[__builtin_ctz(rest)].filler);
     }
     return variables;
@@ -432,7 +437,7 @@ static int ready_lines_hold(const struct table *table, struct node *node)
     if (lines == 0) {
         return 1;
     }
-    struct asking asking = { table, node, { 0 }, { 0 } };
+    struct asking asking = { table, node->set, { 0 }, { 0 } };
     for (u64 rest = lines; rest != 0; rest &= rest - 1) {
         if (!line_holds(&asking, &table->lines[__builtin_ctzll(rest)])) {
             return 0;
@@ -444,7 +449,7 @@ static int ready_lines_hold(const struct table *table, struct node *node)
 
 /* Makes the child of a live node with this set for the next variable.
    Answers 0 if the child is dead. */
-static int live_child(const struct table *table, const struct node *node, u32 set, struct node *child)
+static int live_child(const struct table *table, const struct node *node, u64 set, struct node *child)
 {
     u32 x = node->chosen;
     *child = *node;
@@ -456,8 +461,8 @@ static int live_child(const struct table *table, const struct node *node, u32 se
 struct walk {
     const struct table *table;
     u32 budget;
-    u32 count;          /* the nodes examined so far */
-    struct node solved; /* the last node, where the walk ends solved */
+    u32 count;                 /* the nodes examined so far */
+    u64 set[MOST_VARIABLES];   /* of the node at hand; of the last one, where the walk ends solved */
 };
 
 /* Counts one more node. Answers 0 if the budget has none left. */
@@ -476,10 +481,9 @@ static u32 walk_on(struct walk *walk, const struct node *node)
     const struct table *table = walk->table;
     struct node child;
     if (node->chosen == table->v) {
-        walk->solved = *node;
         return SOLVED;
     }
-    for (u32 set = 0; set < 1u << (table->c + table->e); set++) {
+    for (u64 set = 0; set >> (table->c + table->e) == 0; set++) {
         if (!one_more(walk)) {
             return BUDGET;
         }
@@ -497,17 +501,18 @@ static u32 walk_from_start(struct walk *walk)
 {
     struct node start;
     memset(&start, 0, sizeof start);
+    start.set = walk->set;
     if (!one_more(walk)) {
         return BUDGET;
     }
     return ready_lines_hold(walk->table, &start) ? walk_on(walk, &start) : NONE;
 }
 
-static void write_sets(const struct node *node, u8 *output)
+static void write_sets(const struct walk *walk, u8 *output)
 {
-    for (u32 x = 0; x < node->chosen; x++) {
-        for (u32 i = 0; i < 4; i++) {
-            output[4 * x + i] = (u8)(node->set[x] >> 8 * i);
+    for (u32 x = 0; x < walk->table->v; x++) {
+        for (u32 i = 0; i < SET_BYTES; i++) {
+            output[SET_BYTES * x + i] = (u8)(walk->set[x] >> 8 * i);
         }
     }
 }
@@ -515,8 +520,8 @@ static void write_sets(const struct node *node, u8 *output)
 /* Walks a readable table. */
 static struct answer solve_table(const struct table *table, u32 budget, u8 *output, u32 room)
 {
-    struct answer answer = { OUTPUT_SHORT, 0, 4 * table->v };
-    if (room < 4 * table->v) {
+    struct answer answer = { OUTPUT_SHORT, 0, SET_BYTES * table->v };
+    if (room < SET_BYTES * table->v) {
         return answer;
     }
     struct walk walk;
@@ -527,7 +532,7 @@ static struct answer solve_table(const struct table *table, u32 budget, u8 *outp
     answer.count = walk.count;
     answer.place = 0;
     if (answer.number == SOLVED) {
-        write_sets(&walk.solved, output);
+        write_sets(&walk, output);
     }
     return answer;
 }

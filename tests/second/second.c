@@ -294,7 +294,8 @@ struct node {
     u64 *set;
     u64 ready;                 /* bit i: line i is ready here */
     u32 chosen;
-    u32 reach[MOST_VARIABLES]; /* bit y of reach[x]: x depends on y over one or more steps */
+    u32 reach[MOST_VARIABLES]; /* bit y of reach[x]: x depends on y over one or more steps; 0 for x
+                                  that is not chosen */
 };
 
 /* ---- The order between descriptions, after substitution */
@@ -387,10 +388,8 @@ static u32 dependences(const struct table *table, u64 set)
 static u32 reached(const struct node *node, u32 variables)
 {
     u32 all = variables;
-    for (u32 x = 0; x < node->chosen; x++) {
-        if (variables >> x & 1) {
-            all |= node->reach[x];
-        }
+    for (u32 rest = variables; rest != 0; rest &= rest - 1) {
+        all |= node->reach[__builtin_ctz(rest)];
     }
     return all;
 }

@@ -28,15 +28,19 @@ static _Noreturn void give_up(const char *message)
     fail(message);
 }
 
-/* "Bounds: c + e at most 24, r at most 16, v at most 12, m at most 64, p at most 8."
-   "the count q of role rows, at most 32" */
+/* "Constants and restrictions go up to 32 each, 56 together, variables to 24." "r at
+   most 16", "m at most 64, p at most 8". "the count q of role rows, at most 32". "Sets
+   become 64-bit numbers and the output eight bytes per variable". */
 enum {
-    MOST_ATOMS = 24,
+    MOST_CONSTANTS = 32,
+    MOST_RESTRICTIONS = 32,
+    MOST_ATOMS = 56,
     MOST_ROLES = 16,
-    MOST_VARIABLES = 12,
+    MOST_VARIABLES = 24,
     MOST_LINES = 64,
     MOST_LEFT = 8,
-    MOST_ROLE_ROWS = 32
+    MOST_ROLE_ROWS = 32,
+    SET_BYTES = 8
 };
 
 /* ---- A table is its bytes, and where they stand */
@@ -156,13 +160,13 @@ static int byte_follows(struct cursor *cursor)
 }
 
 /* "a count is over its bound", at its byte. */
-static int count_follows(struct cursor *cursor, int most, u32 *count)
+static int count_follows(struct cursor *cursor, u32 most, u32 *count)
 {
     if (!byte_follows(cursor)) {
         return 0;
     }
     *count = here(cursor);
-    return (int)*count <= most ? go_on(cursor) : refuse(cursor, COUNT_OVER_BOUND, cursor->at);
+    return *count <= most ? go_on(cursor) : refuse(cursor, COUNT_OVER_BOUND, cursor->at);
 }
 
 /* "code or role not declared or not allowed there", at its byte. */
@@ -209,13 +213,20 @@ static int mark_and_version_follow(struct cursor *cursor)
     return 1;
 }
 
-/* "counts in byte order (c + e is judged at byte 8)" */
+/* "c + e is judged at byte 8" */
+static int atoms_within(struct cursor *cursor)
+{
+    const struct table *table = cursor->table;
+    return table->c + table->e <= MOST_ATOMS ? 1 : refuse(cursor, COUNT_OVER_BOUND, 8);
+}
+
+/* "counts in byte order", and "a c or e over 32 is 4 at its own byte, before the sum" */
 static int counts_follow(struct cursor *cursor)
 {
     struct table *table = cursor->table;
-    return count_follows(cursor, 255, &table->c) && count_follows(cursor, MOST_ROLES, &table->r)
+    return count_follows(cursor, MOST_CONSTANTS, &table->c) && count_follows(cursor, MOST_ROLES, &table->r)
         && count_follows(cursor, MOST_VARIABLES, &table->v)
-        && count_follows(cursor, MOST_ATOMS - (int)table->c, &table->e)
+        && count_follows(cursor, MOST_RESTRICTIONS, &table->e) && atoms_within(cursor)
         && count_follows(cursor, MOST_LINES, &table->m);
 }
 
@@ -726,11 +737,11 @@ static void hold_to_first(const struct walk *walk, u32 number)
 
 /* ---- The solver */
 
-/* "each variable's set number, four bytes, into the part of the output that
-   starts at four times its number" */
+/* "each variable's set number", eight bytes, into the part of the output that starts
+   at eight times its number; bit i of the number is bit i % 8 of byte i / 8. */
 static void write_set(const struct node *node, u32 x, u8 *output)
 {
-    memset(output, 0, 4);
+    memset(output, 0, SET_BYTES);
     for (u32 i = 0; i < atoms(node->table); i++) {
         output[i / 8] |= (u8)(node->in[x][i] << i % 8);
     }
@@ -749,12 +760,12 @@ static struct answer walk_table(const struct table *table, u32 budget, u8 *outpu
         hold_to_first(&walk, number);
     }
     for (u32 x = 0; number == SOLVED && x < table->v; x++) {
-        write_set(&walk.node, x, output + 4 * x);
+        write_set(&walk.node, x, output + SET_BYTES * x);
     }
     return (struct answer){ number, (u32)walk.examined, 0 };
 }
 
-/* "Then 6, then 7, then the walk." */
+/* "Then 6, then 7, then the walk." "Number 7 now speaks of 8v". */
 static struct answer trees_solve(const u8 *bytes, u32 length, u32 budget, u8 *output, u32 room)
 {
     struct table table;
@@ -762,8 +773,8 @@ static struct answer trees_solve(const u8 *bytes, u32 length, u32 budget, u8 *ou
     if (reading.number != 0) {
         return (struct answer){ reading.number, 0, reading.place };
     }
-    if (room < 4 * table.v) {
-        return (struct answer){ OUTPUT_SHORT, 0, 4 * table.v };
+    if (room < SET_BYTES * table.v) {
+        return (struct answer){ OUTPUT_SHORT, 0, SET_BYTES * table.v };
     }
     enter_steps(&table);
     return walk_table(&table, budget, output);

@@ -118,7 +118,7 @@ static u32 budget_near(u32 n)
 
 static u32 random_budget(const u8 *bytes, u32 length)
 {
-    u8 output[4 * 12];
+    u8 output[MOST_OUTPUT];
     u32 most = percent(&chance, 8) ? 4 * walk : walk;
     struct answer answer = second_solve(bytes, length, most, output, sizeof output);
     switch (answer.number) {
@@ -128,10 +128,11 @@ static u32 random_budget(const u8 *bytes, u32 length)
     }
 }
 
-/* A length of output, for a table of v variables. */
+/* A length of output, for a table of v variables: some would do for sets of four bytes
+   each. */
 static u32 random_room(u32 v)
 {
-    u32 need = 4 * v;
+    u32 need = SET_BYTES * v;
     u32 lot = below_bound(&chance, 1000);
     if (lot < 5) {
         return lot < 3 ? MOST_OUTPUT : between(&chance, MOST_OUTPUT + 1, 65535);
@@ -140,7 +141,8 @@ static u32 random_room(u32 v)
     case 0: return need > 0 ? need - 1 : 0;
     case 1: return below_bound(&chance, need + 1);
     case 2: return percent(&chance, 30) ? 0 : need;
-    case 3: case 4: case 5: return need + 7;
+    case 3: return need - below_bound(&chance, need / 2 + 1);
+    case 4: case 5: return need + 7;
     case 6: case 7: return need + below_bound(&chance, 20);
     default: return need;
     }
@@ -253,7 +255,7 @@ static void group_table(void)
    largest. `wanted` is the table's answer: SOLVED or NONE. */
 static void ask_budgets(u32 version, u32 wanted)
 {
-    u8 bytes[DRAFT_BYTES], output[4 * 12];
+    u8 bytes[DRAFT_BYTES], output[MOST_OUTPUT];
     u32 length;
     struct draft draft;
     struct answer answer;
@@ -264,7 +266,7 @@ static void ask_budgets(u32 version, u32 wanted)
     } while (answer.number != wanted || answer.count < 2);
     u32 n = answer.count;
     u32 budgets[] = { 0, 1, n - 1, n, n + 1, below_bound(&chance, 2 * n), largest };
-    u32 room = 4 * second_read(bytes, length).v + below_bound(&chance, 4);
+    u32 room = SET_BYTES * second_read(bytes, length).v + below_bound(&chance, 4);
     for (u32 i = 0; i < sizeof budgets / sizeof budgets[0]; i++) {
         ask_solve_with(bytes, length, budgets[i], room);
     }
@@ -275,30 +277,32 @@ static void group_budgets(void)
     ask_budgets(either_version(), percent(&chance, 60) ? SOLVED : NONE);
 }
 
-/* Each output length up to what a table needs, and some beyond it. */
+/* Each output length up to what a table needs, and some beyond it; of the lengths that are
+   short by many bytes, every so many. */
 static void group_outputs(void)
 {
     u8 bytes[DRAFT_BYTES];
     u32 length = make_bytes(bytes);
-    u32 need = 4 * second_read(bytes, length).v;
-    for (u32 room = 0; room <= need + 4; room++) {
+    u32 need = SET_BYTES * second_read(bytes, length).v;
+    for (u32 room = 0; room <= need + 4; room += room + 9 < need ? 1 + need / 24 : 1) {
         ask_solve_with(bytes, length, random_budget(bytes, length), room);
     }
     ask_solve_with(bytes, length, random_budget(bytes, length), need + below_bound(&chance, MOST_OUTPUT));
 }
 
 /* For each number of variables, an output that is just long enough, one that is a
-   byte too short, and some that are far too long. */
+   byte too short, one of four bytes each, and some that are far too long. */
 static void ask_output_bounds(u32 version)
 {
     u8 bytes[DRAFT_BYTES];
     struct draft draft;
-    for (u32 v = 1; v <= 12; v++) {
+    for (u32 v = 1; v <= 24; v++) {
         draft_start(&draft, below_bound(&chance, 2), 0, v);
         draft.version = version;
         u32 length = write_draft(&draft, bytes);
-        u32 rooms[] = { 4 * v, 4 * v - 1, MOST_OUTPUT - 1 + v % 3, 65535 };
-        for (u32 i = 0; i < (v <= 3 ? 4 : 2); i++) {
+        u32 need = SET_BYTES * v;
+        u32 rooms[] = { need, need - 1, need / 2, MOST_OUTPUT - 1 + v % 3, 65535 };
+        for (u32 i = 0; i < (v <= 3 ? 5 : 3); i++) {
             ask_solve_with(bytes, length, v + 1, rooms[i]);
         }
     }
@@ -330,12 +334,12 @@ static void group_circles(void)
     for (u32 i = 0; i < 16; i++) {
         make_ring(&draft, i / 4 % 2, 1 + i % 4, i / 8);
         u32 length = write_draft(&draft, bytes);
-        ask_solve_with(bytes, length, largest, 4 * draft.v);
+        ask_solve_with(bytes, length, largest, SET_BYTES * draft.v);
     }
 }
 
-/* A set number beyond two bytes: the one long walk. There is none where walks
-   are to be short. */
+/* A set number beyond two bytes: the one long walk. The more atoms there are, the
+   more sets come after it. There is none where walks are to be short. */
 static void group_long_walk(void)
 {
     u8 bytes[DRAFT_BYTES];
@@ -344,11 +348,12 @@ static void group_long_walk(void)
     if (walk < USUAL_WALK) {
         return;
     }
-    draft_start(&draft, between(&chance, 17, 20), 0, 1);
+    draft_start(&draft, between(&chance, 17, 32), 1, 1);
+    add_random_rows(&chance, &draft, below_bound(&chance, 25));
     add_line(&draft, 1, &left, CODE_CONSTANT + 16);
     add_line(&draft, 1, &left, CODE_CONSTANT + below_bound(&chance, 12));
     u32 length = write_draft(&draft, bytes);
-    ask_solve_with(bytes, length, 80000, 4);
+    ask_solve_with(bytes, length, 80000, SET_BYTES);
 }
 
 /* ---- Groups of questions: damage */
@@ -361,7 +366,7 @@ static u8 damage(u8 kept)
     case 0: return (u8)(kept + 1);
     case 1: return (u8)(kept - 1);
     case 2: return (u8)(32 * below_bound(&chance, 4));
-    case 3: return (u8)(kept / 32 * 32 + below_bound(&chance, 14));
+    case 3: return (u8)(kept / 32 * 32 + below_bound(&chance, percent(&chance, 50) ? 8 : 32));
     default: return (u8)draw(&chance);
     }
 }
@@ -456,9 +461,10 @@ static void ask_places(const struct draft *draft)
     }
     ask_changed(bytes, length, below_bound(&chance, 3), 0x20);
     ask_changed(bytes, length, 3, between(&chance, 3, 255));
+    ask_changed(bytes, length, 5, between(&chance, 33, 255));
     ask_changed(bytes, length, 6, between(&chance, 17, 255));
-    ask_changed(bytes, length, 7, between(&chance, 13, 255));
-    ask_changed(bytes, length, 8, between(&chance, 25, 255));
+    ask_changed(bytes, length, 7, between(&chance, 25, 255));
+    ask_changed(bytes, length, 8, between(&chance, 33, 255));
     ask_changed(bytes, length, 9, between(&chance, 65, 255));
     ask_changed(bytes, length, line, 9);
     ask_changed(bytes, length, line, between(&chance, 10, 255));
@@ -485,11 +491,11 @@ static void group_places(void)
 static void ask_far_places(u32 version)
 {
     struct draft draft;
-    draft_start(&draft, 0, 16, 12);
+    draft_start(&draft, between(&chance, 0, 24), 16, 24);
     for (u32 i = 0; version == 2 && i < 32; i++) {
         add_role_row(&draft, below_bound(&chance, 16), below_bound(&chance, 16));
     }
-    add_random_rows(&chance, &draft, 24);
+    add_random_rows(&chance, &draft, 32);
     add_easy_lines(&chance, &draft, 64, 8, 8);
     ask_places(&draft);
 }
@@ -585,39 +591,63 @@ static void ask_counts(u32 version, u32 c, u32 r, u32 v, u32 e, u32 m, u32 p)
     }
 }
 
-/* Each bound, and one over it; and several bounds broken at once. */
+/* Each bound, and one over it. */
 static void ask_bounds(u32 version)
 {
-    u32 some = below_bound(&chance, 25);
+    u32 some = between(&chance, 24, 32);
     ask_counts(version, 1, 1, 1, 1, 1, 8);
     ask_counts(version, 1, 1, 1, 1, 2, 9);
-    ask_counts(version, 24, 0, 1, 0, 1, 2);
-    ask_counts(version, 24, 1, 1, 1, 1, 2);
-    ask_counts(version, 25, 0, 0, 0, 1, 2);
-    ask_counts(version, 0, 1, 1, 24, 1, 2);
-    ask_counts(version, 0, 1, 1, 25, 1, 2);
-    ask_counts(version, some, 3, 1, 24 - some, 2, 3);
-    ask_counts(version, some, 3, 1, 25 - some, 2, 3);
+    ask_counts(version, 32, 0, 1, 0, 1, 2);
+    ask_counts(version, 33, 0, 1, 0, 1, 2);
+    ask_counts(version, 0, 1, 1, 32, 1, 2);
+    ask_counts(version, 0, 1, 1, 33, 1, 2);
+    ask_counts(version, 32, 1, 1, 24, 1, 2);
+    ask_counts(version, 32, 1, 1, 25, 1, 2);
+    ask_counts(version, 24, 1, 1, 32, 1, 2);
+    ask_counts(version, 25, 1, 1, 32, 1, 2);
+    ask_counts(version, some, 3, 1, 56 - some, 2, 3);
+    ask_counts(version, some, 3, 1, 57 - some, 2, 3);
     ask_counts(version, 255, 1, 0, 1, 0, 1);
-    ask_counts(version, between(&chance, 26, 255), 1, 1, below_bound(&chance, 20), 1, 1);
+    ask_counts(version, between(&chance, 34, 255), 1, 1, below_bound(&chance, 20), 1, 1);
     ask_counts(version, 2, 1, 2, 1, 64, between(&chance, 1, 8));
     ask_counts(version, 2, 1, 2, 1, 65, 1);
     ask_counts(version, 1, 16, 1, 3, 1, 1);
     ask_counts(version, 1, 17, 1, 3, 1, 1);
-    ask_counts(version, 1, 1, 12, 2, 3, 2);
-    ask_counts(version, 1, 1, 13, 2, 3, 2);
-    ask_counts(version, 25, 17, 13, 3, 65, 1);
-    ask_counts(version, 25, 16, 13, 3, 65, 1);
-    ask_counts(version, 25, 16, 12, 3, 65, 1);
-    ask_counts(version, 20, 16, 12, 4, 65, 1);
-    ask_counts(version, 0, 0, below_bound(&chance, 13), 0, 0, 1);
+    ask_counts(version, 1, 1, 24, 2, 3, 2);
+    ask_counts(version, 1, 1, 25, 2, 3, 2);
+    ask_counts(version, 0, 0, below_bound(&chance, 25), 0, 0, 1);
     ask_counts(version, 0, 0, 0, 0, 0, 1);
-    ask_counts(version, 0, 16, 12, 24, 64, 8);
+    ask_counts(version, 32, 16, 24, 24, 64, 8);
+}
+
+/* Several bounds passed at once, by one each: every pair of them, and then all from
+   one on. */
+static void ask_bounds_together(u32 version)
+{
+    static const u32 over[5] = { 33, 17, 25, 33, 65 };
+    for (u32 i = 0; i < 5; i++) {
+        u32 counts[5] = { 1, 1, 1, 1, 1 };
+        counts[i] = over[i];
+        for (u32 k = i + 1; k < 5; k++) {
+            counts[k] = over[k];
+            ask_counts(version, counts[0], counts[1], counts[2], counts[3], counts[4], 1);
+            counts[k] = 1;
+        }
+        for (u32 k = i; k < 5; k++) {
+            counts[k] = over[k];
+        }
+        ask_counts(version, counts[0], counts[1], counts[2], counts[3], counts[4], 1);
+    }
+    ask_counts(version, 32, 17, 24, 25, 1, 1);
+    ask_counts(version, 32, 16, 25, 25, 1, 1);
+    ask_counts(version, 32, 16, 24, 25, 65, 1);
 }
 
 static void group_bounds(void)
 {
-    ask_bounds(either_version());
+    u32 version = either_version();
+    ask_bounds(version);
+    ask_bounds_together(version);
 }
 
 /* Every value of one byte of a table. */
@@ -666,6 +696,227 @@ static void group_values(void)
     ask_every_value(bytes, length, below_bound(&chance, length));
 }
 
+/* ---- Groups of questions: many atoms and many variables
+
+   Sets come in rising number, so no walk here meets a set with an atom of a high number.
+   Such atoms are entries of lines; and of tables with many atoms some are solved at low
+   sets, some have a line without variables that fails, and the others go over the
+   budget. */
+
+/* The counts of such a table. */
+struct size {
+    u32 version, c, e, v;
+};
+
+/* So many atoms, which are more than 32: of them as many constants as there may be, or as
+   few. */
+static struct size size_of(u32 version, u32 atoms, int most_constants, u32 v)
+{
+    u32 c = most_constants ? 32 : atoms - 32;
+    return (struct size){ version, c, atoms - c, v };
+}
+
+/* Starts a table of this size, with rows and two roles or more. */
+static void start_wide(struct draft *draft, struct size size)
+{
+    draft_start(draft, size.c, between(&chance, 2, 15), size.v);
+    if (size.version == 2) {
+        add_random_role_rows(&chance, draft);
+    }
+    add_random_rows(&chance, draft, size.e);
+}
+
+/* One of the first so many constants. */
+static u32 early_constant(const struct draft *draft, u32 most)
+{
+    return CODE_CONSTANT + below_bound(&chance, most < draft->c ? most : draft->c);
+}
+
+static u32 any_row(const struct draft *draft)
+{
+    return CODE_RESTRICTION + below_bound(&chance, draft->e);
+}
+
+static u32 last_code(u32 first, u32 count)
+{
+    return first + count - 1;
+}
+
+/* Asks for the answer under a budget, with enough output, and with one that is enough for
+   sets of four bytes each. */
+static void ask_wide_budget(const struct draft *draft, u32 budget)
+{
+    u8 bytes[DRAFT_BYTES];
+    u32 length = write_draft(draft, bytes);
+    ask_read(bytes, length);
+    ask_line(bytes, length);
+    ask_solve_with(bytes, length, budget, SET_BYTES * draft->v + below_bound(&chance, 9));
+    ask_solve_with(bytes, length, budget, SET_BYTES * draft->v - between(&chance, 1, 4 * draft->v));
+}
+
+/* Solved: some variables are below constants or rows of low number, and each atom of a
+   high number is below itself, by an entry among others. */
+static void ask_wide_solved(struct size size)
+{
+    struct draft draft;
+    u8 left[3];
+    start_wide(&draft, size);
+    for (u32 i = 0; i < 3; i++) {
+        left[0] = (u8)(CODE_VARIABLE + below_bound(&chance, size.v));
+        add_line(&draft, 1, left, early_constant(&draft, 6));
+    }
+    left[0] = (u8)last_code(CODE_CONSTANT, draft.c);
+    left[1] = (u8)last_code(CODE_RESTRICTION, draft.e);
+    left[2] = (u8)last_code(CODE_VARIABLE, draft.v);
+    add_line(&draft, 3, left, left[0]);
+    add_line(&draft, 3, left, left[1]);
+    add_line(&draft, 3, left, left[2]);
+    add_easy_lines(&chance, &draft, 4, 1, 8);
+    ask_wide_budget(&draft, 1000);
+}
+
+/* Lines without variables: three by chance, which mostly fail, and one that does. */
+static void ask_wide_none(struct size size)
+{
+    struct draft draft;
+    u8 first = CODE_CONSTANT;
+    start_wide(&draft, size);
+    for (u32 k = 0; k < draft.e; k++) {
+        draft.row[k].filler = (u8)(percent(&chance, 50) ? CODE_TOP : early_constant(&draft, 32));
+    }
+    for (u32 i = 0; i < 3; i++) {
+        u8 left[2] = { (u8)early_constant(&draft, 32), (u8)any_row(&draft) };
+        draft.m = 0;
+        add_line(&draft, 2, left, percent(&chance, 50) ? any_row(&draft) : early_constant(&draft, 32));
+        ask_wide_budget(&draft, 1 + below_bound(&chance, 200));
+    }
+    draft.m = 0;
+    add_line(&draft, 1, &first, last_code(CODE_RESTRICTION, draft.e));
+    ask_wide_budget(&draft, 1 + below_bound(&chance, 2));
+}
+
+/* Over any budget: a variable below constant 31 or the last row, whose role is no other's
+   and in no role row. */
+static void ask_wide_budgets(struct size size)
+{
+    struct draft draft;
+    u8 left = (u8)(CODE_VARIABLE + below_bound(&chance, size.v));
+    start_wide(&draft, size);
+    draft.row[draft.e - 1].role = (u8)draft.r++;
+    add_line(&draft, 1, &left, draft.c == 32 ? CODE_CONSTANT + 31 : last_code(CODE_RESTRICTION, draft.e));
+    ask_wide_budget(&draft, below_bound(&chance, 400));
+    ask_wide_budget(&draft, 1 + below_bound(&chance, 1000));
+}
+
+/* Two rows of the highest numbers, with the first and the last variable as fillers, the
+   one below the other: so the one's set is below the other's. */
+static void ask_wide_rows(struct size size)
+{
+    struct draft draft;
+    start_wide(&draft, size);
+    u32 last = draft.e - 1, turned = below_bound(&chance, 2);
+    u8 first_variable = CODE_VARIABLE, left = (u8)(CODE_RESTRICTION + last - turned);
+    draft.row[last].filler = CODE_VARIABLE;
+    draft.row[last - 1].filler = (u8)last_code(CODE_VARIABLE, size.v);
+    draft.row[last - 1].role = draft.row[last].role;
+    add_line(&draft, 1, &first_variable, early_constant(&draft, 4));
+    add_line(&draft, 1, &left, CODE_RESTRICTION + last - 1 + turned);
+    ask_wide_budget(&draft, 2000);
+}
+
+/* The set of number 2 to the count of atoms beyond 32, and those before it. */
+static void ask_wide_set(struct size size)
+{
+    struct draft draft;
+    u8 left = CODE_VARIABLE;
+    start_wide(&draft, size);
+    add_line(&draft, 1, &left, CODE_CONSTANT + size.e);
+    ask_wide_budget(&draft, (1u << size.e) + 1 + size.v);
+}
+
+/* The longest table of a version: without its last byte, as it is, and with a byte
+   more. */
+static void ask_longest(u32 version)
+{
+    u8 bytes[DRAFT_BYTES];
+    struct draft draft;
+    draft_start(&draft, below_bound(&chance, 25), 16, 24);
+    while (version == 2 && draft.q < 32) {
+        add_role_row(&draft, below_bound(&chance, 16), below_bound(&chance, 16));
+    }
+    add_random_rows(&chance, &draft, 32);
+    add_easy_lines(&chance, &draft, 64, 8, 8);
+    u32 length = write_draft(&draft, bytes);
+    bytes[length] = (u8)draw(&chance);
+    for (u32 i = 0; i < 3; i++) {
+        ask_cut(bytes, length - 1 + i);
+        ask_solve_with(bytes, length - 1 + i, 24 + i, SET_BYTES * draft.v);
+        ask_line_number(bytes, length - 1 + i, 63);
+    }
+}
+
+/* A table with one byte changed, and enough output. */
+static void ask_code(u8 *bytes, u32 length, u32 place, u32 code)
+{
+    u8 kept = bytes[place];
+    bytes[place] = (u8)code;
+    ask_read(bytes, length);
+    ask_solve_with(bytes, length, 30, SET_BYTES * bytes[7]);
+    bytes[place] = kept;
+}
+
+/* Each code at the bounds and beyond them, as a filler and on both sides of a line. */
+static void ask_wide_codes(u32 version)
+{
+    static const u8 codes[] = { 0x1F, 0x20, 0x37, 0x38, 0x3F, 0x40, 0x57, 0x58, 0x5F, 0x60, 0x77, 0x78, 0x7F, 0x80 };
+    u8 bytes[DRAFT_BYTES];
+    struct draft draft;
+    for (u32 c = 24; c <= 32; c += 8) {
+        draft_start(&draft, c, 1, 24);
+        draft.version = version;
+        add_random_rows(&chance, &draft, 56 - c);
+        add_easy_lines(&chance, &draft, 1, 1, 1);
+        u32 length = write_draft(&draft, bytes);
+        for (u32 i = 0; i < sizeof codes; i++) {
+            ask_code(bytes, length, rows_start(&draft) + 1, codes[i]);
+            ask_code(bytes, length, length - 2, codes[i]);
+            ask_code(bytes, length, length - 1, codes[i]);
+        }
+    }
+}
+
+static void ask_wide_of(struct size size)
+{
+    ask_wide_solved(size);
+    ask_wide_none(size);
+    ask_wide_budgets(size);
+    ask_wide_rows(size);
+}
+
+/* Each of these with 56 atoms, with 40, and with numbers between and below; with 24
+   variables, with 13, and with other numbers. */
+static void ask_wide(u32 version)
+{
+    u32 atoms[] = { 56, 40, between(&chance, 41, 55), between(&chance, 34, 39) };
+    u32 variables[] = { 24, 13, between(&chance, 14, 23), between(&chance, 2, 12) };
+    for (u32 i = 0; i < 4; i++) {
+        ask_wide_of(size_of(version, atoms[i], 0, variables[i]));
+        ask_wide_of(size_of(version, atoms[i], 1, variables[i]));
+    }
+    ask_wide_set(size_of(version, 32, 1, 1));
+    ask_wide_set(size_of(version, between(&chance, 33, 36), 1, 24));
+    ask_wide_set(size_of(version, between(&chance, 37, 42), 1, between(&chance, 1, 23)));
+    ask_longest(version);
+    ask_wide_codes(version);
+}
+
+static void group_wide(void)
+{
+    u32 version = either_version();
+    ask_wide_of(size_of(version, between(&chance, 34, 56), percent(&chance, 50), between(&chance, 2, 24)));
+    ask_wide_set(size_of(version, between(&chance, 32, 42), 1, between(&chance, 1, 24)));
+}
+
 /* ---- Groups of questions: roles */
 
 /* Finishes a table with rows and lines that hold under any sets, and asks about
@@ -677,7 +928,7 @@ static u32 ask_easy(struct draft *draft, u32 m, u8 *bytes)
     u32 length = write_draft(draft, bytes);
     ask_read(bytes, length);
     ask_line(bytes, length);
-    ask_solve_with(bytes, length, 2, 4 * draft->v);
+    ask_solve_with(bytes, length, 2, SET_BYTES * draft->v);
     return length;
 }
 
@@ -764,8 +1015,8 @@ static void ask_mistake(enum mistake mistake)
     do {
         make_table_of(&chance, walk, 2, &draft);
         length = write_draft(&draft, bytes);
-    } while (!tells(mistake, bytes, length, walk, 4 * draft.v));
-    ask_solve_with(bytes, length, walk, 4 * draft.v);
+    } while (!tells(mistake, bytes, length, walk, SET_BYTES * draft.v));
+    ask_solve_with(bytes, length, walk, SET_BYTES * draft.v);
 }
 
 static void group_mistakes(void)
@@ -784,10 +1035,10 @@ struct group {
 
 static const struct group groups[] = {
     { 5600, group_table },    { 700, group_garbage }, { 550, group_after },   { 800, group_budgets },
-    { 200, group_damage },    { 200, group_both },    { 200, group_outputs }, { 100, group_truncation },
+    { 200, group_damage },    { 200, group_both },    { 150, group_outputs }, { 100, group_truncation },
     { 50, group_mark },       { 50, group_bounds },   { 30, group_values },   { 20, group_places },
     { 50, group_versions },   { 50, group_mistakes }, { 20, group_role_counts }, { 10, group_role_shapes },
-    { 5, group_far_places },  { 2, group_long_walk },
+    { 5, group_far_places },  { 2, group_long_walk }, { 50, group_wide },
 };
 
 static void group_by_chance(void)
@@ -817,6 +1068,8 @@ static void ask_all(u64 count)
         ask_output_bounds(version);
         ask_lines(version);
         ask_bounds(version);
+        ask_bounds_together(version);
+        ask_wide(version);
     }
     group_outputs();
     group_circles();

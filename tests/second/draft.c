@@ -64,6 +64,29 @@ void add_row(struct draft *draft, u32 role, u32 filler)
     }
 }
 
+/* Adds to the number of a variable's code. */
+static void move_variable(u8 *code, u32 by)
+{
+    if (*code >= CODE_VARIABLE) {
+        *code = (u8)(*code + by);
+    }
+}
+
+void add_variables_before(struct draft *draft, u32 variables)
+{
+    draft->v += variables;
+    for (u32 k = 0; k < draft->e; k++) {
+        move_variable(&draft->row[k].filler, variables);
+    }
+    for (u32 i = 0; i < draft->m; i++) {
+        struct draft_line *line = &draft->line[i];
+        for (u32 k = 0; k < line->p; k++) {
+            move_variable(&line->left[k], variables);
+        }
+        move_variable(&line->right, variables);
+    }
+}
+
 void add_line(struct draft *draft, u32 p, const u8 *left, u32 right)
 {
     if (draft->m < DRAFT_LINES && p <= DRAFT_LEFT) {

@@ -8,11 +8,14 @@
 
 enum {
     DRAFT_ROLE_ROWS = 40,
-    DRAFT_ROWS = 32,
+    DRAFT_ROWS = 40,
     DRAFT_LEFT = 12,
     DRAFT_LINES = 72,
     DRAFT_BYTES = 11 + 2 * DRAFT_ROLE_ROWS + 2 * DRAFT_ROWS + (2 + DRAFT_LEFT) * DRAFT_LINES
 };
+
+/* The bytes of a variable's set in the output of a solved table. */
+enum { SET_BYTES = 8 };
 
 /* Codes. */
 enum {
@@ -67,6 +70,10 @@ u32 rows_start(const struct draft *draft);
 void add_role_row(struct draft *draft, u32 narrower, u32 wider);
 
 void add_row(struct draft *draft, u32 role, u32 filler);
+
+/* Puts so many variables before the others. They are in no row and no line. */
+void add_variables_before(struct draft *draft, u32 variables);
+
 void add_line(struct draft *draft, u32 p, const u8 *left, u32 right);
 
 /* Codes by chance, allowed where they are meant to stand. There must be a

@@ -25,6 +25,7 @@ enum {
     ONE_ROLE_ROW = 3,
     KINDS = 4,
     ENOUGH_BUDGET = 40000,
+    WIDE_BUDGET = 4000, /* of a table that was grown to the bounds */
     LEAST_PERCENT = 5,
     LONGEST_TEXT = 2 * MOST_OUTPUT + 40
 };
@@ -69,6 +70,14 @@ static void grow(struct chance *chance, struct draft *draft, int with_lines)
     }
 }
 
+/* Grows the draft on, to the bounds of rows and variables. What is added comes after the
+   rest, so the first solution moves by nothing but the new variables' empty sets. */
+static void grow_wide(struct chance *chance, struct draft *draft)
+{
+    draft->v = between(chance, 13, 24);
+    add_random_rows(chance, draft, (percent(chance, 50) ? 32 : between(chance, 25, 32)) - draft->e);
+}
+
 /* Adds two rows of roles between which there are no role rows, and the line that
    puts the first below the second: so there is no solution, but where a role row
    leads from the one role to the other. */
@@ -103,7 +112,7 @@ static void load(struct question *question, const struct draft *draft, u32 budge
     u8 bytes[DRAFT_BYTES];
     question->kind = KIND_SOLVE;
     question->number = budget;
-    question->room = 4 * draft->v + more_room;
+    question->room = SET_BYTES * draft->v + more_room;
     question->length = write_draft(draft, bytes);
     memcpy(question->table, bytes, question->length);
 }
@@ -111,7 +120,7 @@ static void load(struct question *question, const struct draft *draft, u32 budge
 /* A budget with which the table is mostly answered, and sometimes just not. */
 static u32 close_budget(struct chance *chance, const struct draft *draft)
 {
-    u8 bytes[DRAFT_BYTES], output[4 * 12];
+    u8 bytes[DRAFT_BYTES], output[MOST_OUTPUT];
     u32 length = write_draft(draft, bytes);
     struct answer answer = second_solve(bytes, length, ENOUGH_BUDGET, output, sizeof output);
     return percent(chance, 80) ? answer.count : answer.count - 1;
@@ -136,9 +145,13 @@ static void make_pair(struct chance *chance, struct pair *pair, u64 index)
         load(&pair->second, &draft, budget + between(chance, 1, ENOUGH_BUDGET),
              room + between(chance, 1, 9));
     } else {
+        int wide = percent(chance, 8);
         load(&pair->first, &draft, ENOUGH_BUDGET, 0);
         grow(chance, &draft, pair->kind == WITH_LINES);
-        load(&pair->second, &draft, ENOUGH_BUDGET, 0);
+        if (wide) {
+            grow_wide(chance, &draft);
+        }
+        load(&pair->second, &draft, wide ? WIDE_BUDGET : ENOUGH_BUDGET, 0);
     }
 }
 

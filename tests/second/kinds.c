@@ -1,7 +1,8 @@
 /* kinds: reads a stream of questions on standard input, and the replies to it on
    descriptor 3. Ends with status 1 if one of the kinds below is not in it: each
    number of the reader and of the solver, with each part of a table at which it
-   can be placed, in each version; role rows of each shape; and tables that tell
+   can be placed, in each version; each bound passed by one, and before another; tables
+   with many atoms and many variables; role rows of each shape; and tables that tell
    each mistake about roles (mistakes.h). */
 
 #include "mistakes.h"
@@ -46,6 +47,7 @@ static const struct refusal refusals[] = {
     { ONE, TWO, ENDS_EARLY, RIGHT_ENTRY, ANY_BYTE, "1 at a right entry" },
     { NEITHER, NEITHER, WRONG_MARK, HEADER, 0, "2 at 0" },
     { NEITHER, NEITHER, WRONG_VERSION, HEADER, 3, "3 at 3" },
+    { ONE, TWO, COUNT_OVER_BOUND, HEADER, 5, "4 at 5" },
     { ONE, TWO, COUNT_OVER_BOUND, HEADER, 6, "4 at 6" },
     { ONE, TWO, COUNT_OVER_BOUND, HEADER, 7, "4 at 7" },
     { ONE, TWO, COUNT_OVER_BOUND, HEADER, 8, "4 at 8" },
@@ -61,7 +63,7 @@ static const struct refusal refusals[] = {
     { ONE, TWO, BYTES_AFTER, AFTER, ANY_BYTE, "6 after the last line" },
 };
 
-enum { REFUSALS = sizeof refusals / sizeof refusals[0], MOST_VARIABLES = 12 };
+enum { REFUSALS = sizeof refusals / sizeof refusals[0], MOST_VARIABLES = 24, SET_BYTES = 8 };
 
 /* Versions that are refused, as the number that bytes 3 and 4 are. */
 static const struct {
@@ -73,6 +75,65 @@ static const struct {
 };
 
 enum { REFUSED_VERSIONS = sizeof refused_versions / sizeof refused_versions[0] };
+
+/* What is bounded in the header, in the order in which it is judged. The sum is looked
+   at only where c and e are within their bounds. */
+enum bounded { C, R, V, E, SUM, M, BOUNDED };
+
+static const struct {
+    u32 most, place;
+    const char *name;
+} bounds[BOUNDED] = {
+    { 32, 5, "c" }, { 16, 6, "r" }, { MOST_VARIABLES, 7, "v" }, { 32, 8, "e" }, { 56, 8, "c + e" }, { 64, 9, "m" },
+};
+
+/* Tables with many atoms or variables, each of which is answered with 0, with 8 and with
+   9. */
+static const struct {
+    u32 least_atoms, most_atoms, least_variables, least_c, least_e;
+    const char *name;
+} sizes[] = {
+    { 33, 39, 0, 0, 0, "33 to 39 atoms" },
+    { 40, 55, 0, 0, 0, "40 to 55 atoms" },
+    { 56, 56, 0, 0, 0, "56 atoms" },
+    { 0, 56, 13, 0, 0, "13 variables or more" },
+    { 0, 56, 24, 0, 0, "24 variables" },
+    { 56, 56, 24, 0, 0, "56 atoms and 24 variables" },
+    { 0, 56, 0, 25, 0, "25 constants or more" },
+    { 0, 56, 0, 32, 0, "32 constants" },
+    { 0, 56, 0, 0, 25, "25 restrictions or more" },
+    { 0, 56, 0, 0, 32, "32 restrictions" },
+};
+
+enum { SIZES = sizeof sizes / sizeof sizes[0], ANSWERS = 3 };
+
+static const char *const answer_names[ANSWERS] = { "solve: 0, with ", "solve: 8, with ", "solve: 9, with " };
+
+/* Other kinds at the bounds. */
+enum limit {
+    FOUR_EACH, HIGH_SET, HIGH_LEFT, HIGH_RIGHT, LAST_CONSTANT, FIRST_RESTRICTION, LAST_RESTRICTION,
+    FIRST_VARIABLE, LAST_VARIABLE, CONSTANT_24, RESTRICTION_24, VARIABLE_24, RESTRICTION_FILLER, LONGEST,
+    LONGEST_CUT, LONGEST_AND_ONE, LIMITS
+};
+
+static const char *const limit_names[LIMITS] = {
+    "solve: 7, with four bytes for each variable or more",
+    "solve: 0, with 32 atoms or more, and a set of 2^(c+e-32) or more",
+    "solve: 0, with an atom of number 32 or more on the left of a line",
+    "solve: 8, with an atom of number 32 or more on the right of a line",
+    "an entry 0x3f",
+    "an entry 0x40 where c is 32",
+    "an entry 0x5f",
+    "an entry 0x60 where e is 32",
+    "an entry 0x77",
+    "5 for an entry 0x38 where c is 24",
+    "5 for an entry 0x58 where e is 24",
+    "5 for an entry 0x78 where v is 24",
+    "5 for a filler 0x40 where c is 32",
+    "0, 8 or 9 for a table of the greatest length",
+    "1 for a table of the greatest length but one",
+    "6 for a table of the greatest length and a byte",
+};
 
 /* The other kinds of both versions. */
 enum other {
@@ -122,6 +183,8 @@ static const char *const shape_names[SHAPES] = {
 
 static u64 of_read[VERSIONS][REFUSALS], of_solve[VERSIONS][REFUSALS], of_other[VERSIONS][OTHERS];
 static u64 of_short[VERSIONS][MOST_VARIABLES + 1]; /* 7, by the number of variables */
+static u64 of_bounds[VERSIONS][BOUNDED][BOUNDED];      /* the first passed, and another; itself, where there is none */
+static u64 of_size[VERSIONS][ANSWERS][SIZES], of_limit[VERSIONS][LIMITS];
 static u64 of_refused_version[REFUSED_VERSIONS], of_shape[SHAPES], of_mistake[MISTAKES];
 
 static enum version version_of(const struct question *question)
@@ -203,6 +266,64 @@ static void count_refused_version(const u8 *table)
     }
 }
 
+/* What is bounded, by the header of a table. */
+static u32 bounded_in(const u8 *table, enum bounded what)
+{
+    static const u32 byte[BOUNDED] = { 5, 6, 7, 8, 0, 9 };
+    u32 c = table[5], e = table[8];
+    if (what == SUM) {
+        return c <= bounds[C].most && e <= bounds[E].most ? c + e : 0;
+    }
+    return table[byte[what]];
+}
+
+/* Counts a table that is answered with 4 in its header: the first bound that it passes,
+   with each that it passes besides, and by itself where that is one, by one. */
+static void count_bounds(const struct question *question, u32 place)
+{
+    const u8 *table = question->table;
+    enum version version = version_of(question);
+    u32 first = BOUNDED, others = 0;
+    for (u32 i = 0; i < BOUNDED; i++) {
+        if (bounded_in(table, i) <= bounds[i].most) {
+            continue;
+        }
+        if (first == BOUNDED) {
+            first = i;
+        } else {
+            of_bounds[version][first][i]++;
+            others++;
+        }
+    }
+    if (first == BOUNDED || bounds[first].place != place) {
+        unknown("a count", COUNT_OVER_BOUND, place);
+    }
+    of_bounds[version][first][first] += others == 0 && bounded_in(table, first) == bounds[first].most + 1;
+}
+
+/* The greatest length of a table. */
+static u32 greatest_length(enum version version)
+{
+    return version == ONE ? 10 + 2 * 32 + 64 * 10 : 11 + 2 * 32 + 2 * 32 + 64 * 10;
+}
+
+/* Counts the refusals that stand for limits. */
+static void count_refused_limits(const struct question *question, u32 number, u32 place)
+{
+    const u8 *table = question->table;
+    enum version version = version_of(question);
+    u64 *of = of_limit[version];
+    u32 code = number == CODE_REFUSED ? table[place] : 0;
+    int at_filler = number == CODE_REFUSED && part_of(table, place) == FILLER;
+    int at_entry = number == CODE_REFUSED && !at_filler;
+    of[CONSTANT_24] += at_entry && code == 0x38 && table[5] == 24;
+    of[RESTRICTION_24] += at_entry && code == 0x58 && table[8] == 24;
+    of[VARIABLE_24] += at_entry && code == 0x78 && table[7] == 24;
+    of[RESTRICTION_FILLER] += at_filler && code == 0x40 && table[5] == 32;
+    of[LONGEST_CUT] += number == ENDS_EARLY && question->length + 1 == greatest_length(version);
+    of[LONGEST_AND_ONE] += number == BYTES_AFTER && place == greatest_length(version) && question->length == place + 1;
+}
+
 static void count_refusal(const struct question *question, u64 counts[VERSIONS][REFUSALS], u32 number,
                           u32 place)
 {
@@ -212,6 +333,10 @@ static void count_refusal(const struct question *question, u64 counts[VERSIONS][
         count_refused_version(question->table);
     }
     count_refused_shape(question, number, place);
+    count_refused_limits(question, number, place);
+    if (number == COUNT_OVER_BOUND && part == HEADER) {
+        count_bounds(question, place);
+    }
     for (u32 i = 0; i < REFUSALS; i++) {
         const struct refusal *refusal = &refusals[i];
         if (refusal->from <= version && version <= refusal->to && refusal->number == number
@@ -223,12 +348,74 @@ static void count_refusal(const struct question *question, u64 counts[VERSIONS][
     unknown("a question", number, place);
 }
 
-static void count_short(enum version version, u32 place)
+static void count_short(const struct question *question, u32 place)
 {
-    if (place == 0 || place % 4 != 0 || place / 4 > MOST_VARIABLES) {
+    enum version version = version_of(question);
+    if (place == 0 || place % SET_BYTES != 0 || place / SET_BYTES > MOST_VARIABLES) {
         unknown("a short output", OUTPUT_SHORT, place);
     }
-    of_short[version][place / 4]++;
+    of_short[version][place / SET_BYTES]++;
+    of_limit[version][FOUR_EACH] += question->room >= place / 2;
+}
+
+/* ---- Tables that are walked */
+
+/* Whether a set of a solved table has this number or a greater one. The replies that
+   are counted have the sets in hex: the second solver is asked. */
+static int has_set_from(const struct question *question, u64 least)
+{
+    u8 output[MOST_OUTPUT];
+    second_solve(question->table, question->length, question->number, output, question->room);
+    for (u32 x = 0; x < question->table[7]; x++) {
+        u64 set = 0;
+        for (u32 i = 0; i < SET_BYTES; i++) {
+            set |= (u64)output[SET_BYTES * x + i] << 8 * i;
+        }
+        if (set >= least) {
+            return 1;
+        }
+    }
+    return 0;
+}
+
+/* What an entry of a line stands for among the limits. */
+static void count_entry(const u8 *table, u32 code, int right, u32 number, u8 *seen)
+{
+    u32 c = table[5];
+    int high = code >= 0x40 && code < 0x60 && c + (code - 0x40) >= 32;
+    seen[HIGH_LEFT] |= high && !right && number == SOLVED;
+    seen[HIGH_RIGHT] |= high && right && number == NONE;
+    seen[LAST_CONSTANT] |= code == 0x3F;
+    seen[FIRST_RESTRICTION] |= code == 0x40 && c == 32;
+    seen[LAST_RESTRICTION] |= code == 0x5F;
+    seen[FIRST_VARIABLE] |= code == 0x60 && table[8] == 32;
+    seen[LAST_VARIABLE] |= code == 0x77;
+}
+
+/* A table that is answered with 0, 8 or 9. */
+static void count_walk(const struct question *question, u32 number)
+{
+    const u8 *table = question->table;
+    enum version version = version_of(question);
+    u32 c = table[5], v = table[7], e = table[8];
+    u32 at = (version == ONE ? 10 : 11 + 2 * (u32)table[10]) + 2 * e;
+    u8 seen[LIMITS] = { 0 };
+    for (u32 i = 0; i < SIZES; i++) {
+        of_size[version][number == SOLVED ? 0 : number == NONE ? 1 : 2][i] +=
+            c + e >= sizes[i].least_atoms && c + e <= sizes[i].most_atoms && v >= sizes[i].least_variables
+            && c >= sizes[i].least_c && e >= sizes[i].least_e;
+    }
+    for (u32 i = 0; i < table[9]; i++) {
+        u32 right = at + table[at] + 1;
+        for (at++; at <= right; at++) {
+            count_entry(table, table[at], at == right, number, seen);
+        }
+    }
+    seen[HIGH_SET] = number == SOLVED && c + e >= 32 && has_set_from(question, (u64)1 << (c + e - 32));
+    seen[LONGEST] = question->length == greatest_length(version);
+    for (u32 i = 0; i < LIMITS; i++) {
+        of_limit[version][i] += seen[i];
+    }
 }
 
 /* In how many steps over the role rows a role reaches another, and no fewer; 0
@@ -301,6 +488,9 @@ static void count_solve(const struct question *question, u32 number, u32 count, 
 {
     int at_budget = count == question->number;
     enum version version = version_of(question);
+    if (number == SOLVED || number == NONE || number == BUDGET) {
+        count_walk(question, number);
+    }
     switch (number) {
     case SOLVED:
         of_other[version][at_budget ? SOLVED_AT_BUDGET : SOLVED_BELOW_BUDGET]++;
@@ -311,7 +501,7 @@ static void count_solve(const struct question *question, u32 number, u32 count, 
         count_roles(question);
         break;
     case BUDGET: of_other[version][count == 0 ? BUDGET_0 : BUDGET_OTHER]++; break;
-    case OUTPUT_SHORT: count_short(version, place); break;
+    case OUTPUT_SHORT: count_short(question, place); break;
     default: count_refusal(question, of_solve, number, place); break;
     }
 }
@@ -425,6 +615,32 @@ static void judge_others(enum version version)
     }
 }
 
+/* Each bound alone, and each pair of which the first is told; c or e over its bound is no
+   matter of the sum. */
+static void judge_bounds(enum version version)
+{
+    for (u32 i = 0; i < BOUNDED; i++) {
+        judge(version_names[version], "passed alone, by one: ", bounds[i].name, of_bounds[version][i][i]);
+        for (u32 k = i + 1; k < BOUNDED; k++) {
+            if (k != SUM || (i != C && i != E)) {
+                judge(version_names[version], "passed after another: ", bounds[k].name, of_bounds[version][i][k]);
+            }
+        }
+    }
+}
+
+static void judge_limits(enum version version)
+{
+    for (u32 i = 0; i < SIZES; i++) {
+        for (u32 answer = 0; answer < ANSWERS; answer++) {
+            judge(version_names[version], answer_names[answer], sizes[i].name, of_size[version][answer][i]);
+        }
+    }
+    for (u32 i = 0; i < LIMITS; i++) {
+        judge(version_names[version], "", limit_names[i], of_limit[version][i]);
+    }
+}
+
 static void judge_roles(void)
 {
     for (u32 i = 0; i < SHAPES; i++) {
@@ -438,8 +654,11 @@ static void judge_roles(void)
 static void judge_all(void)
 {
     judge_refusals();
-    judge_others(ONE);
-    judge_others(TWO);
+    for (u32 version = ONE; version <= TWO; version++) {
+        judge_others(version);
+        judge_bounds(version);
+        judge_limits(version);
+    }
     judge_roles();
 }
 
@@ -455,7 +674,7 @@ int main(void)
     }
     judge_all();
     if (!missing) {
-        put_text("every number, every kind of place and every shape of role rows is among them (the rarest: ");
+        put_text("every number, every kind of place, every bound and every shape of role rows is among them (the rarest: ");
         put_number(rarest);
         put_text(")\n");
     }

@@ -3,12 +3,13 @@
 #include "tables.h"
 
 #include "second.h"
+#include "stream.h"
 
 /* ---- Lines that make the walk longer */
 
 static struct answer try_draft(const struct draft *draft, u32 walk)
 {
-    u8 bytes[DRAFT_BYTES], output[4 * 12];
+    u8 bytes[DRAFT_BYTES], output[MOST_OUTPUT];
     u32 length = write_draft(draft, bytes);
     return second_solve(bytes, length, walk, output, sizeof output);
 }
@@ -212,12 +213,22 @@ static void make_circles(struct chance *chance, u32 walk, struct draft *draft)
     }
 }
 
+/* A count of constants, where there are so many atoms: from the least that leaves no
+   more than 32 rows. */
+static u32 constants_among(struct chance *chance, u32 all)
+{
+    u32 least = all > 32 ? all - 32 : 0;
+    u32 most = all < 32 ? all : 32;
+    u32 few = least + 3 < most ? least + 3 : most;
+    return between(chance, least, percent(chance, 30) ? most : few);
+}
+
 /* Counts up to the bounds, and a few lines that are easy to meet. */
 static void make_wide(struct chance *chance, u32 walk, struct draft *draft)
 {
-    u32 all = between(chance, 5, 24);
-    u32 c = percent(chance, 30) ? below_bound(chance, all + 1) : below_bound(chance, 4);
-    start(chance, draft, c, between(chance, 1, 16), between(chance, 1, 12));
+    u32 all = between(chance, 5, percent(chance, 60) ? 24 : 56);
+    u32 c = constants_among(chance, all);
+    start(chance, draft, c, between(chance, 1, 16), between(chance, 1, percent(chance, 60) ? 12 : 24));
     add_random_rows(chance, draft, all - c);
     u32 lines = between(chance, 0, 3);
     for (u32 i = 0; i < lines; i++) {
@@ -244,6 +255,23 @@ static void make_long(struct chance *chance, u32 walk, struct draft *draft)
     }
 }
 
+/* Adds what does not move the sets of a first solution: rows after the others, whose
+   atoms have the highest numbers, and variables before the others. Then some lines,
+   of the new rows too. */
+static void widen(struct chance *chance, u32 walk, struct draft *draft)
+{
+    u32 most = draft->c > 24 ? 56 - draft->c : 32;
+    if (draft->r > 0) {
+        add_random_rows(chance, draft, percent(chance, 50) ? most - draft->e : below_bound(chance, most - draft->e + 1));
+    }
+    if (percent(chance, 60)) {
+        add_variables_before(draft, percent(chance, 50) ? 24 - draft->v : below_bound(chance, 25 - draft->v));
+    }
+    if (draft->m < 60 && percent(chance, 60)) {
+        add_lines_by_trial(chance, walk, draft, between(chance, 1, 3), 8);
+    }
+}
+
 /* ---- */
 
 struct make {
@@ -265,6 +293,9 @@ void make_table(struct chance *chance, u32 walk, struct draft *draft)
         lot -= makes[i++].weight;
     }
     makes[i].make(chance, walk, draft);
+    if (percent(chance, 10)) {
+        widen(chance, walk < 600 ? walk : 600, draft);
+    }
 }
 
 void make_table_of(struct chance *chance, u32 walk, u32 version, struct draft *draft)

@@ -742,12 +742,13 @@ static u32 last_code(u32 first, u32 count)
     return first + count - 1;
 }
 
-/* Asks for the answer under a budget, with enough output, and with one that is enough for
-   sets of four bytes each. */
+/* Asks for the answer under a budget, or under `walk` where that is less, with enough
+   output, and with one that is enough for sets of four bytes each. */
 static void ask_wide_budget(const struct draft *draft, u32 budget)
 {
     u8 bytes[DRAFT_BYTES];
     u32 length = write_draft(draft, bytes);
+    budget = budget < walk ? budget : walk;
     ask_read(bytes, length);
     ask_line(bytes, length);
     ask_solve_with(bytes, length, budget, SET_BYTES * draft->v + below_bound(&chance, 9));

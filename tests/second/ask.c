@@ -869,7 +869,8 @@ static void ask_code(u8 *bytes, u32 length, u32 place, u32 code)
 /* Each code at the bounds and beyond them, as a filler and on both sides of a line. */
 static void ask_wide_codes(u32 version)
 {
-    static const u8 codes[] = { 0x1F, 0x20, 0x37, 0x38, 0x3F, 0x40, 0x57, 0x58, 0x5F, 0x60, 0x77, 0x78, 0x7F, 0x80 };
+    static const u8 codes[] = { 0x1F, 0x20, 0x37, 0x38, 0x3F, 0x40, 0x57,
+                                0x58, 0x5F, 0x60, 0x77, 0x78, 0x7F, 0x80 };
     u8 bytes[DRAFT_BYTES];
     struct draft draft;
     for (u32 c = 24; c <= 32; c += 8) {

@@ -84,7 +84,8 @@ static const struct {
     u32 most, place;
     const char *name;
 } bounds[BOUNDED] = {
-    { 32, 5, "c" }, { 16, 6, "r" }, { MOST_VARIABLES, 7, "v" }, { 32, 8, "e" }, { 56, 8, "c + e" }, { 64, 9, "m" },
+    { 32, 5, "c" }, { 16, 6, "r" }, { MOST_VARIABLES, 7, "v" },
+    { 32, 8, "e" }, { 56, 8, "c + e" }, { 64, 9, "m" },
 };
 
 /* Tables with many atoms or variables, each of which is answered with 0, with 8 and with
@@ -183,7 +184,7 @@ static const char *const shape_names[SHAPES] = {
 
 static u64 of_read[VERSIONS][REFUSALS], of_solve[VERSIONS][REFUSALS], of_other[VERSIONS][OTHERS];
 static u64 of_short[VERSIONS][MOST_VARIABLES + 1]; /* 7, by the number of variables */
-static u64 of_bounds[VERSIONS][BOUNDED][BOUNDED];      /* the first passed, and another; itself, where there is none */
+static u64 of_bounds[VERSIONS][BOUNDED][BOUNDED]; /* the first passed, and another; itself for none */
 static u64 of_size[VERSIONS][ANSWERS][SIZES], of_limit[VERSIONS][LIMITS];
 static u64 of_refused_version[REFUSED_VERSIONS], of_shape[SHAPES], of_mistake[MISTAKES];
 
@@ -321,7 +322,8 @@ static void count_refused_limits(const struct question *question, u32 number, u3
     of[VARIABLE_24] += at_entry && code == 0x78 && table[7] == 24;
     of[RESTRICTION_FILLER] += at_filler && code == 0x40 && table[5] == 32;
     of[LONGEST_CUT] += number == ENDS_EARLY && question->length + 1 == greatest_length(version);
-    of[LONGEST_AND_ONE] += number == BYTES_AFTER && place == greatest_length(version) && question->length == place + 1;
+    of[LONGEST_AND_ONE] += number == BYTES_AFTER && place == greatest_length(version)
+        && question->length == place + 1;
 }
 
 static void count_refusal(const struct question *question, u64 counts[VERSIONS][REFUSALS], u32 number,
@@ -674,7 +676,7 @@ int main(void)
     }
     judge_all();
     if (!missing) {
-        put_text("every number, every kind of place, every bound and every shape of role rows is among them (the rarest: ");
+        put_text("every number, kind of place, bound, size and shape of role rows is among them (the rarest: ");
         put_number(rarest);
         put_text(")\n");
     }

@@ -260,9 +260,9 @@ static void make_long(struct chance *chance, u32 walk, struct draft *draft)
    of the new rows too. */
 static void widen(struct chance *chance, u32 walk, struct draft *draft)
 {
-    u32 most = draft->c > 24 ? 56 - draft->c : 32;
+    u32 rows = (draft->c > 24 ? 56 - draft->c : 32) - draft->e;
     if (draft->r > 0) {
-        add_random_rows(chance, draft, percent(chance, 50) ? most - draft->e : below_bound(chance, most - draft->e + 1));
+        add_random_rows(chance, draft, percent(chance, 50) ? rows : below_bound(chance, rows + 1));
     }
     if (percent(chance, 60)) {
         add_variables_before(draft, percent(chance, 50) ? 24 - draft->v : below_bound(chance, 25 - draft->v));

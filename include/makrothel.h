@@ -24,16 +24,23 @@
  *        1  the table ends early                            0      the table's length
  *        2  wrong mark                                      0      0
  *        3  the version is neither 1 nor 2                  0      3
- *        4  a count is over its bound (q: 32)               0      its byte (q: 10)
+ *        4  a count is over its bound                       0      its byte (c + e: 8)
  *        5  a code or role not declared or not allowed,     0      its byte
  *           role rows included
  *        6  bytes after the last line                       0      the first of them
- *        7  the output is shorter than 4v bytes             0      4v
+ *        7  the output is shorter than 8v bytes             0      8v
  *        8  none: nothing solves the table                  N      0
  *        9  the budget b is spent                           b      0
  *
  *   makrothel_read returns 0 to 6, and makrothel_solve 0 to 9. N is how many nodes the walk examined, v how many
  *   variables the table has. The table's first byte is byte 0.
+ *
+ * THE BOUNDS
+ *
+ *   Constants c and restrictions e are at most 32 each and 56 together, roles r at most 16, variables v at most 24,
+ *   lines m at most 64, the left entries p of a line at most 8, and role rows q at most 32. The counts are judged in the
+ *   order of their bytes: c is byte 5, r byte 6, v byte 7, e byte 8 and with it, then, c + e, m byte 9, q byte 10. The
+ *   longest readable table has 714 bytes in version 1 and 779 in version 2. No table needs more than 192 bytes of output.
  *
  * THE VERSIONS
  *
@@ -90,9 +97,9 @@ uint32_t makrothel_line(const uint8_t *table, size_t table_length, uint32_t n, u
  *
  * Always writes both elements: numbers[0] is the count and numbers[1] the place of the table above.
  *
- * Only under 0 is the output written: four bytes for each variable k, from byte 4k on, its set number with the lowest
+ * Only under 0 is the output written: eight bytes for each variable k, from byte 8k on, its set number with the lowest
  * byte first. Bit i of a set number says that atom i is in the set: constant k is atom k, restriction k is atom c + k.
- * The bytes from 4v on stay as they were, and so does the whole output under every other number.
+ * The bytes from 8v on stay as they were, and so does the whole output under every other number.
  */
 uint32_t makrothel_solve(const uint8_t *table, size_t table_length, uint32_t budget, uint8_t *output,
                          size_t output_length, uint64_t numbers[2]);

@@ -38,9 +38,9 @@
  * THE BOUNDS
  *
  *   Constants c and restrictions e are at most 32 each and 56 together, roles r at most 16, variables v at most 24,
- *   lines m at most 64, the left entries p of a line at most 8, and role rows q at most 32. The counts are judged in the
- *   order of their bytes: c is byte 5, r byte 6, v byte 7, e byte 8 and with it, then, c + e, m byte 9, q byte 10. The
- *   longest readable table has 714 bytes in version 1 and 779 in version 2. No table needs more than 192 bytes of output.
+ *   lines m at most 64, the left entries p of a line at most 8, and role rows q at most 32. The counts are judged in
+ *   this order: c at byte 5, r at 6, v at 7, e and then c + e at 8, m at 9, q at 10. The longest readable table has 714
+ *   bytes in version 1 and 779 in version 2. No table needs more than 192 bytes of output.
  *
  * THE VERSIONS
  *

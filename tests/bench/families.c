@@ -1,14 +1,22 @@
 /* families NAME: writes a stream of solve questions on standard output, made
    from fixed seeds: tables that need long walks.
 
-     chains       variables that depend on each other in chains and towers
-     constants    many constants, one or two variables
-     variables    many variables, few atoms
-     lines        many lines with long left sides
-     none         no solution, found only at the end of a long walk
-     roles        chains of role rows, without which most answers are others
-     bounds       one table at every bound, for the measure of the stack
-     role-bounds  the same with the most role rows
+     chains        variables that depend on each other in chains and towers
+     constants     many constants, one or two variables
+     variables     many variables, few atoms
+     lines         many lines with long left sides
+     none          no solution, found only at the end of a long walk
+     roles         chains of role rows, without which most answers are others
+     atoms-40      40 atoms, of which the rows lead from variable to variable
+     atoms-56      56 atoms, of which the rows are entries of lines
+     variables-24  24 variables
+
+   and for the measure of the stack:
+
+     bounds        a tower of 12 variables, with the most lines, which are the longest
+     role-bounds   the same with the most role rows
+     wide-bounds   56 atoms, 24 variables, the most and the longest lines; both versions
+     chain-24      a chain of 24 variables with the most rows, and a long walk
 
    families NAME short: the same tables with small budgets. */
 
@@ -147,7 +155,7 @@ static void variables(void)
 /* ---- lines */
 
 /* Lines that hold under any sets, and after them two that do not. */
-static void many_lines(u32 c, u32 rows, u32 v)
+static void many_lines(u32 c, u32 rows, u32 v, u32 budget)
 {
     struct draft draft;
     draft_start(&draft, c, 2, v);
@@ -155,13 +163,13 @@ static void many_lines(u32 c, u32 rows, u32 v)
     add_easy_lines(&chance, &draft, 62, 4, 8);
     below_code(&draft, 0, CODE_RESTRICTION + rows - 1);
     below_code(&draft, v - 1, CODE_RESTRICTION + rows - 2);
-    ask(&draft, 1500000);
+    ask(&draft, budget);
 }
 
 static void lines(void)
 {
     for (u32 i = 0; i < 24; i++) {
-        many_lines(2 + i % 4, 5 + i % 5, 1 + i % 4);
+        many_lines(2 + i % 4, 5 + i % 5, 1 + i % 4, 1500000);
     }
 }
 
@@ -358,6 +366,99 @@ static void roles(void)
     role_ring(2, 8, 6);
 }
 
+/* ---- atoms-40 */
+
+/* A tower on the last variables, each below a restriction on the one before it, which are
+   the first rows; then rows by chance, and lines between them that compare the
+   variables. */
+static void wide_tower(u32 c, u32 rows, u32 v, u32 height, u32 lines, u32 budget)
+{
+    struct draft draft;
+    u32 bottom = v - height;
+    draft_start(&draft, c, 2, v);
+    below_code(&draft, bottom, CODE_CONSTANT + c - 1);
+    for (u32 x = bottom; x + 1 < v; x++) {
+        add_row(&draft, 0, variable(x));
+        below_code(&draft, x + 1, CODE_RESTRICTION + x - bottom);
+    }
+    while (draft.e < rows) {
+        add_row(&draft, draft.e % 2, variable(bottom + below_bound(&chance, height)));
+    }
+    for (u32 i = 0; i < lines; i++) {
+        u32 row = CODE_RESTRICTION + height - 1 + below_bound(&chance, rows - height - 1);
+        u8 left[3] = { (u8)row, variable(v - 1), (u8)(CODE_RESTRICTION + below_bound(&chance, rows)) };
+        add_line(&draft, 3, left, row + 2); /* which has the same role */
+    }
+    ask(&draft, budget);
+}
+
+static void atoms_40(void)
+{
+    for (u32 i = 0; i < 6; i++) {
+        wide_tower(8 + i % 2, 32 - i % 2, 7 + 3 * i, 5 + i % 4, 6 * i, 800000);
+        many_lines(9 + i % 3, 31 - i % 3, 1 + i % 4, 150000);
+    }
+}
+
+/* ---- atoms-56 */
+
+/* The rows have the higher atom numbers, so the sets of a walk have constants alone. Lines
+   between rows on neighbours compare their sets, by a row and by one of three entries in
+   turn; the first variable and the last are below constants. */
+static void compared(u32 c, u32 v, u32 first)
+{
+    struct draft draft;
+    draft_start(&draft, c, 1, v);
+    for (u32 x = 0; x < 56 - c; x++) {
+        add_row(&draft, 0, variable(x % v));
+    }
+    below_code(&draft, 0, CODE_CONSTANT + first);
+    below_code(&draft, v - 1, CODE_CONSTANT + first + 1);
+    for (u32 x = 0; x + 1 < v; x++) {
+        u8 left[3] = { (u8)(CODE_RESTRICTION + x), (u8)(CODE_RESTRICTION + v - 1), CODE_CONSTANT };
+        add_line(&draft, 1 + 2 * (x % 2), left, CODE_RESTRICTION + x + 1);
+    }
+    add_easy_lines(&chance, &draft, 60 - draft.m, 4, 8);
+    ask(&draft, 300000);
+}
+
+/* One variable below one constant, after lines that compare rows on it with others. */
+static void late_constant(u32 c, u32 constant)
+{
+    struct draft draft;
+    draft_start(&draft, c, 2, 1);
+    add_random_rows(&chance, &draft, 56 - c);
+    add_easy_lines(&chance, &draft, 12, 2, 4);
+    below_code(&draft, 0, CODE_CONSTANT + constant);
+    ask(&draft, 3000000);
+}
+
+static void atoms_56(void)
+{
+    for (u32 i = 0; i < 8; i++) {
+        compared(24 + i, 2 + 2 * (i % 4), 4 + i % 3);
+    }
+    for (u32 i = 0; i < 6; i++) {
+        many_lines(24 + i, 32 - i, 1 + i % 4, 100000);
+    }
+    late_constant(32, 19);
+    late_constant(24, 20);
+}
+
+/* ---- variables-24 */
+
+static void variables_24(void)
+{
+    for (u32 i = 0; i < 8; i++) {
+        far_lines(24 - i % 3, 1 + i % 2, 1 + i % 3, 2 + i % 6);
+    }
+    two_towers(12, 2, 400000);
+    two_towers(12, 1, 400000);
+    role_towers(12, 16, 400000);
+    wide_tower(2, 30, 24, 20, 20, 300000);
+    wide_tower(4, 32, 24, 12, 30, 300000);
+}
+
 /* ---- bounds */
 
 /* 12 variables, 24 atoms and 64 lines, most of them of 8 left entries: a tower of
@@ -396,6 +497,49 @@ static void role_bounds(void)
     ask_bounds(draft);
 }
 
+/* 56 atoms, 24 variables and 64 lines of 8 left entries. */
+static void ask_wide_bounds(struct draft draft)
+{
+    add_random_rows(&chance, &draft, 56 - draft.c);
+    add_easy_lines(&chance, &draft, 64, 8, 8);
+    ask(&draft, 0xFFFFFFFF);
+}
+
+static void wide_bounds(void)
+{
+    struct draft draft;
+    for (u32 c = 24; c <= 32; c += 8) {
+        draft_start(&draft, c, 16, 24);
+        ask_wide_bounds(draft);
+        chain_of_roles(&draft);
+        while (draft.q < 32) {
+            add_role_row(&draft, 0, draft.q % 16);
+        }
+        ask_wide_bounds(draft);
+    }
+}
+
+/* A chain of 24 variables, each to the next one and the last to top, with 32 rows: each
+   variable is below r.top, and s of the first is below s of the second, which is asked
+   down to the last. Solved with N = 2^24 + 24, whatever the budget is to be: a shorter
+   chain asks less of the stack. */
+static void chain_24(void)
+{
+    struct draft draft;
+    u8 left = CODE_RESTRICTION + 24;
+    draft_start(&draft, 0, 16, 24);
+    for (u32 x = 0; x < 24; x++) {
+        add_row(&draft, 0, x < 23 ? variable(x + 1) : CODE_TOP);
+        below_code(&draft, x, CODE_RESTRICTION + 23);
+    }
+    add_row(&draft, 1, variable(0));
+    add_row(&draft, 1, variable(1));
+    add_line(&draft, 1, &left, CODE_RESTRICTION + 25);
+    add_random_rows(&chance, &draft, 32 - draft.e);
+    most = 0xFFFFFFFF;
+    ask(&draft, most);
+}
+
 /* ---- */
 
 struct family {
@@ -407,7 +551,9 @@ struct family {
 static const struct family families[] = {
     { "chains", 1, chains },       { "constants", 2, constants }, { "variables", 3, variables },
     { "lines", 4, lines },         { "none", 5, none },           { "bounds", 6, bounds },
-    { "roles", 7, roles },         { "role-bounds", 8, role_bounds },
+    { "roles", 7, roles },         { "role-bounds", 8, role_bounds }, { "atoms-40", 9, atoms_40 },
+    { "atoms-56", 10, atoms_56 },  { "variables-24", 11, variables_24 },
+    { "wide-bounds", 12, wide_bounds }, { "chain-24", 13, chain_24 },
 };
 
 int main(int words, char **word)

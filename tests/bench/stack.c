@@ -49,15 +49,22 @@ static _Noreturn void stop(const char *message)
     exit(1);
 }
 
-/* Stops unless the answer is the second solver's, and the output too. */
-static void hold(const struct question *question, u32 number, const u64 *numbers, const u8 *output)
+/* What the second solver answers to the question at hand, and the output afterwards. */
+static struct answer expected;
+static u8 expected_output[MOST_OUTPUT];
+
+static void expect(const struct question *question)
 {
-    static u8 expected[MOST_OUTPUT];
-    memset(expected, FILL, sizeof expected);
-    struct answer answer = second_solve(question->table, question->length, question->number, expected,
-                                        question->room);
-    if (number != answer.number || numbers[0] != answer.count || numbers[1] != answer.place
-        || memcmp(output, expected, sizeof expected) != 0) {
+    memset(expected_output, FILL, sizeof expected_output);
+    expected = second_solve(question->table, question->length, question->number, expected_output,
+                            question->room);
+}
+
+/* Stops unless the answer is the second solver's, and the output too. */
+static void hold(u32 number, const u64 *numbers, const u8 *output)
+{
+    if (number != expected.number || numbers[0] != expected.count || numbers[1] != expected.place
+        || memcmp(output, expected_output, sizeof expected_output) != 0) {
         stop("an answer differs from the second solver's");
     }
 }
@@ -69,7 +76,7 @@ static void solve(const struct question *question)
     memset(output, FILL, sizeof output);
     u32 number = solve_on(question->table, question->length, question->number, output, question->room,
                           numbers, top);
-    hold(question, number, numbers, output);
+    hold(number, numbers, output);
 }
 
 /* The depth of one call, on this paint. */
@@ -86,6 +93,7 @@ static u32 depth_on(const struct question *question, u8 paint)
 
 static u32 depth_of(const struct question *question)
 {
+    expect(question);
     solve(question);
     u32 one = depth_on(question, 0x5A);
     u32 other = depth_on(question, 0xA5);

@@ -14,8 +14,7 @@ enum {
     FRESH = 10000, /* texts by chance */
     DAMAGED = 3,   /* of each */
     LEAST = 100,   /* that each kind of answer must be given */
-    NODES = 400,   /* the budget of the second solver */
-    SET_BYTES = 4  /* of a set in its output */
+    NODES = 400    /* the budget of the second solver */
 };
 
 static const char *const kind_names[OWL_KINDS] = {"made", "10", "11 not listed", "11 not declared", "12", "17"};

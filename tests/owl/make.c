@@ -11,7 +11,7 @@
 enum form { THING, CONSTANT, OPEN, BOTH, SOME };
 
 /* A large text may pass each bound by two. */
-enum { MOST_CLASSES = 20000, MOST_NAMES = MOST_ATOMS + MOST_VARIABLES + MOST_ROLES + 6, MOST_ITEMS = 400 };
+enum { MOST_CLASSES = 20000, MOST_NAMES = MOST_CONSTANTS + MOST_VARIABLES + MOST_ROLES + 6, MOST_ITEMS = 400 };
 
 struct class {
     enum form form;
@@ -369,7 +369,7 @@ enum joins make_text(struct chance *chance, struct bytes *text) {
     enum joins joins = kind == 0 ? JOINS_UNSAID : JOINS;
     class_count = item_count = 0;
     text->length = 0;
-    plan.c = is_large ? between(chance, 0, MOST_ATOMS + 2) : between(chance, 0, 3);
+    plan.c = is_large ? between(chance, 0, MOST_CONSTANTS + 2) : between(chance, 0, 3);
     plan.v = is_large ? between(chance, 0, MOST_VARIABLES + 2) : between(chance, 0, 2);
     plan.r = is_large ? between(chance, 0, MOST_ROLES + 2) : between(chance, 0, 2);
     plan.widest = is_large ? between(chance, 2, MOST_ENTRIES + 1) : between(chance, 2, 3);

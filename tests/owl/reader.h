@@ -7,11 +7,11 @@
 
 /* The bounds of a table. All that depends on them is written with these names. */
 enum {
-    MOST_CONSTANTS = 24,
-    MOST_RESTRICTIONS = 24,
-    MOST_ATOMS = 24, /* constants and restrictions together */
+    MOST_CONSTANTS = 32,
+    MOST_RESTRICTIONS = 32,
+    MOST_ATOMS = 56, /* constants and restrictions together */
     MOST_ROLES = 16,
-    MOST_VARIABLES = 12,
+    MOST_VARIABLES = 24,
     MOST_LINES = 64,
     MOST_ENTRIES = 8, /* on the left of a line */
     LONGEST_TABLE = 10 + 2 * MOST_RESTRICTIONS + (MOST_ENTRIES + 2) * MOST_LINES

@@ -140,6 +140,15 @@ static void add_holding(struct chance *chance, u32 levels) {
     }
 }
 
+/* Axioms that make rows and no lines: a restriction on a name or owl:Thing is below owl:Thing. */
+static void add_rows(struct chance *chance, u32 axioms) {
+    u32 i;
+    for (i = 0; i < axioms && plan.r; i++) {
+        u32 role = below_bound(chance, plan.r), filler = any_class(chance, 0, plan.v);
+        add_axiom(SUB, some(role, filler), new_class(THING, 0));
+    }
+}
+
 /* An axiom that holds under no substitution; answers 0 where there are too few names for one. */
 static int add_failing(struct chance *chance) {
     u32 kind = below_bound(chance, 6), k = plan.c > 1 ? below_bound(chance, plan.c - 1) : 0;
@@ -387,6 +396,7 @@ enum joins make_text(struct chance *chance, struct bytes *text) {
             add_axiom(percent(chance, 70) ? SUB : EQUIVALENT, left, right);
         }
     }
+    if (is_large && percent(chance, 25)) add_rows(chance, between(chance, MOST_RESTRICTIONS / 2, MOST_RESTRICTIONS + 4));
     if (joins == JOINS && !all_hold()) abort();
     if (kind == 2 && add_failing(chance)) joins = JOINS_NOT;
     switch (below_bound(chance, 3)) {

@@ -752,7 +752,7 @@ static void ask_wide_budget(const struct draft *draft, u32 budget)
     ask_read(bytes, length);
     ask_line(bytes, length);
     ask_solve_with(bytes, length, budget, SET_BYTES * draft->v + below_bound(&chance, 9));
-    ask_solve_with(bytes, length, budget, SET_BYTES * draft->v - between(&chance, 1, 4 * draft->v));
+    ask_solve_with(bytes, length, budget, SET_BYTES * draft->v - between(&chance, 1, SET_BYTES / 2 * draft->v));
 }
 
 /* Solved: some variables are below constants or rows of low number, and each atom of a

@@ -21,6 +21,20 @@ static const char *const kind_names[OWL_KINDS] = {"made", "10", "11 not listed",
 
 static size_t kinds[OWL_KINDS], compared, solved, unsolvable, undecided;
 
+/* Tables with as many constants, restrictions, both together, and variables as there may be. */
+enum { AT_BOUNDS = 4 };
+
+static const char *const bound_names[AT_BOUNDS] = {"constants", "restrictions", "constants and restrictions", "variables"};
+static size_t at_bounds[AT_BOUNDS];
+
+static void count_bounds(const unsigned char *table) {
+    u32 c = table[5], v = table[7], e = table[8];
+    at_bounds[0] += c == MOST_CONSTANTS;
+    at_bounds[1] += e == MOST_RESTRICTIONS;
+    at_bounds[2] += c + e == MOST_ATOMS;
+    at_bounds[3] += v == MOST_VARIABLES;
+}
+
 enum { BUFFER = 4096, FILL = 0xAA };
 
 static void show(const unsigned char *text, size_t length) {
@@ -160,7 +174,10 @@ static struct run compare(const char *note, const unsigned char *text, size_t le
     compared++;
     kinds[run.answer.kind]++;
     if (!agrees(text, length, BUFFER, &run)) differ(note, text, length);
-    if (run.answer.kind == OWL_MADE) try_buffers(text, length, &run);
+    if (run.answer.kind == OWL_MADE) {
+        count_bounds(run.buffer);
+        try_buffers(text, length, &run);
+    }
     return run;
 }
 
@@ -254,6 +271,12 @@ int main(int count, char **args) {
     for (i = 0; i < OWL_KINDS; i++) {
         if (kinds[i] < LEAST) {
             printf("owl: too few answers of the kind %s\n", kind_names[i]);
+            exit(1);
+        }
+    }
+    for (i = 0; i < AT_BOUNDS; i++) {
+        if (at_bounds[i] == 0) {
+            printf("owl: no table with the most %s\n", bound_names[i]);
             exit(1);
         }
     }

@@ -1,8 +1,8 @@
 /* ask SEED COUNT [WALK]: writes a stream of COUNT questions, or some more, on
    standard output: the same for the same seed. There are tables that are
    solved, that have no solution and that go over the budget, of both versions;
-   bounds and codes at and beyond their limits; role rows of many shapes; and
-   tables damaged, cut short and made too long.
+   bounds and codes at and beyond their limits; many atoms and many variables; role
+   rows of many shapes; and tables damaged, cut short and made too long.
    It asks the second solver for N, so that few walks are longer than WALK.
 
    ask stats SEED COUNT [WALK]: says instead how often each kind of question and

@@ -708,8 +708,7 @@ struct size {
     u32 version, c, e, v;
 };
 
-/* So many atoms, which are more than 32: of them as many constants as there may be, or as
-   few. */
+/* So many atoms, 32 or more: of them as many constants as there may be, or as few. */
 static struct size size_of(u32 version, u32 atoms, int most_constants, u32 v)
 {
     u32 c = most_constants ? 32 : atoms - 32;
@@ -755,8 +754,8 @@ static void ask_wide_budget(const struct draft *draft, u32 budget)
     ask_solve_with(bytes, length, budget, SET_BYTES * draft->v - between(&chance, 1, SET_BYTES / 2 * draft->v));
 }
 
-/* Solved: some variables are below constants or rows of low number, and each atom of a
-   high number is below itself, by an entry among others. */
+/* Solved: three variables are below constants of low number; the last constant, the last
+   row and the last variable are below themselves, by an entry among others. */
 static void ask_wide_solved(struct size size)
 {
     struct draft draft;

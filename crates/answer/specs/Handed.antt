@@ -21,7 +21,7 @@ handed (OverBound p) = record { number = 4; count = 0; place = p }
 handed (NotAllowed p) = record { number = 5; count = 0; place = p }
 -- "bytes after the last line", 0, "first of them"
 handed (BytesAfter p) = record { number = 6; count = 0; place = p }
--- "output shorter than 4v bytes", 0, 4v
+-- "output shorter than 4v bytes", 0, 4v; "Number 7 now speaks of 8v"
 handed (OutputShort p) = record { number = 7; count = 0; place = p }
 -- "none", N, 0
 handed (Nothing n) = record { number = 8; count = n; place = 0 }

@@ -8,7 +8,7 @@ use Rattle.el.specs.Test.{bit}
 use Rattle.el.specs.Table.{rowAt, atoms}
 use Rattle.table.specs.Code.{kindOf, within, roleOf, fillerOfKind, fillerOf, entryOfKind, entryOf}
 use Rattle.table.specs.Reading.{marked, versionKnown, hasRoleRows, headerEnd, roleCount, readCounts, readHeader, readMany, readPair, readCode, readLine, readBody, reading, tableOf}
-use Rattle.output.specs.Written.{littleEndian, numberAt, assignmentBytes, written}
+use Rattle.output.specs.Written.{littleEndian, numberAt, assignmentBytes, writtenIn}
 use Rattle.text.specs.Text.{decimalTo, decimal, behind, joined, numbersText}
 use Rattle.text.specs.Listing.{fillerText, rowText, atomText, atomsIn, conjunctionText, setText, variableLine, variableLines, solvedText, firstLine, listingText}
 use Rattle.text.specs.Examples.{worked}
@@ -29,5 +29,5 @@ pub worked-example : reportText worked
     ≡ 0x30 ∷ 0x20 ∷ 0x31 ∷ 0x34 ∷ 0x20 ∷ 0x30 ∷ 0x0A
     ∷ 0x76 ∷ 0x30 ∷ 0x3A ∷ 0x20 ∷ 0x72 ∷ 0x30 ∷ 0x2E ∷ 0x76 ∷ 0x31 ∷ 0x0A
     ∷ 0x76 ∷ 0x31 ∷ 0x3A ∷ 0x20 ∷ 0x63 ∷ 0x30 ∷ 0x0A ∷ []
-unfolding worked reportText answerText written assignmentBytes littleEndian listingText firstLine solvedText variableLines variableLine setText conjunctionText atomsIn atomText rowText fillerText numberAt numbersText joined behind decimal decimalTo tableOf reading readBody readLine readCode readPair readMany readHeader readCounts headerEnd roleCount hasRoleRows versionKnown marked roleOf entryOf entryOfKind fillerOf fillerOfKind within kindOf rowAt atoms bit
+unfolding worked reportText answerText writtenIn assignmentBytes littleEndian listingText firstLine solvedText variableLines variableLine setText conjunctionText atomsIn atomText rowText fillerText numberAt numbersText joined behind decimal decimalTo tableOf reading readBody readLine readCode readPair readMany readHeader readCounts headerEnd roleCount hasRoleRows versionKnown marked roleOf entryOf entryOfKind fillerOf fillerOfKind within kindOf rowAt atoms bit
 worked-example = ap₂ (listingText worked) (worked-is .0) (worked-is .1)

@@ -1,6 +1,6 @@
 -- What of a longer input the report looks at, and what it lists.
 --
---   answer-first == the first 764 bytes of an input are answered as the whole input is
+--   answer-first == the first 780 bytes of an input are answered as the whole input is
 --   longer-input == "a longer input gives the same answer": and so they are reported
 --   lines-same   == assignments that give the same sets are listed alike
 --   found-listed == THE ASSIGNMENT THAT WAS FOUND IS LISTED
@@ -31,7 +31,7 @@ use Rattle.listing.specs.Report.{listingBudget, listingOutput, answerTex
 
 pub answer-first : (s : List ℕ) (b : ℕ) (out : List ℕ) → answer (take enoughLength s) b out ≡ answer s b out
 unfolding answer
-answer-first s b out = ap (λ (r : Reading). readingAs r b out) (first-bytes s)
+answer-first s b out = ap (λ (r : Reading). readingAs setBytes r b out) (first-bytes s)
 
 pub longer-input : (s : List ℕ) → reportText (take enoughLength s) ≡ reportText s
 unfolding reportText answerText listingText tableOf
@@ -64,9 +64,9 @@ module _ (n : ℕ) (t : Table) (fits : Fits n t) (a : Assignment) (f : FirstSolv
   unfolding solvedText setOf FirstSolving IsAssignment
   listed out room =
       let e : length a ≡ t .variables = f .0 .0 in
-      let long : length (written a out) ≡ length out = written-length a out (omega arith) in
+      let long : length (written a out) ≡ length out = written-length setBytes a out (omega arith) in
       rw (le-ltb (length (written a out)) (setBytes * t .variables) (omega arith), solvedText)
-      (lines-same t (setIn (written a out)) (setOf a) (t .variables) (λ x l. set-back a out x (omega arith) (set-number x (omega arith))))
+      (lines-same t (setIn (written a out)) (setOf a) (t .variables) (λ x l. set-back setBytes a out x (omega arith) (set-number x (omega arith))))
 
 -- THE ASSIGNMENT THAT WAS FOUND IS LISTED
 pub found-listed : (s : List ℕ) (t : Table) → IsTable s t → N t ≤ listingBudget → (a : Assignment) → FirstSolving t a

@@ -13,7 +13,7 @@ use libc::STDOUT_FILENO;
 const MOST: usize = table::HEADER
     + 1
     + 2 * bounds::MAX_ROLE_ROWS
-    + 2 * bounds::MAX_ATOMS
+    + 2 * bounds::MAX_RESTRICTIONS
     + bounds::MAX_LINES * (bounds::MAX_LEFT + 2)
     + 1;
 

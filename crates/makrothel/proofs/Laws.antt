@@ -135,19 +135,19 @@ line-part t k x e =
 -- The end of a walk
 
 module _ (w : Walked) (out : List ℕ) where
-  ended : (e : End) → w .end ≡ e → outcomeAs (step.outcomeAs e (w .count) (nodeOf (w .sets))) out ≡ outcomeAs (step.outcomeOf w) out
+  ended : (e : End) → w .end ≡ e → outcomeAs setBytes (step.outcomeAs e (w .count) (nodeOf (w .sets))) out ≡ outcomeAs setBytes (step.outcomeOf w) out
   unfolding step.outcomeOf
-  ended e q = ap (λ (x : End). outcomeAs (step.outcomeAs x (w .count) (nodeOf (w .sets))) out) (sym q)
+  ended e q = ap (λ (x : End). outcomeAs setBytes (step.outcomeAs x (w .count) (nodeOf (w .sets))) out) (sym q)
 
   pub finish-found : (after : List ℕ) → w .end ≡ Found → after ≡ written (take (w .sets .chosen) (w .sets .set)) out
-      → answered (Solved (w .count)) after ≡ outcomeAs (step.outcomeOf w) out
+      → answered (Solved (w .count)) after ≡ outcomeAs setBytes (step.outcomeOf w) out
   unfolding nodeOf
   finish-found after q h = ap (answered (Solved (w .count))) h ∙ ended Found q
 
-  pub finish-nothing : w .end ≡ End.Nothing → answered (Nothing (w .count)) out ≡ outcomeAs (step.outcomeOf w) out
+  pub finish-nothing : w .end ≡ End.Nothing → answered (Nothing (w .count)) out ≡ outcomeAs setBytes (step.outcomeOf w) out
   finish-nothing q = ended End.Nothing q
 
-  pub finish-spent : w .end ≡ Spent → answered (Budget (w .count)) out ≡ outcomeAs (step.outcomeOf w) out
+  pub finish-spent : w .end ≡ Spent → answered (Budget (w .count)) out ≡ outcomeAs setBytes (step.outcomeOf w) out
   finish-spent q = ended Spent q
 
 ----------------------------------------------------------------------------------------------------
@@ -156,7 +156,7 @@ module _ (w : Walked) (out : List ℕ) where
 module _ (s : List ℕ) (b : ℕ) (out : List ℕ) where
   pub solve-refused : (why : Answer) → verdictOf (reading s) ≡ Refused why → answered why out ≡ answer s b out
   unfolding answer
-  solve-refused why q = sym (ap (λ (x : Reading). readingAs x b out) (refused-is s why q))
+  solve-refused why q = sym (ap (λ (x : Reading). readingAs setBytes x b out) (refused-is s why q))
 
   variables : verdictOf (reading s) ≡ Readable → tableOf s .variables ≡ headerOf s .v
   variables q = layout s (readable-is s q) .variables
@@ -166,7 +166,7 @@ module _ (s : List ℕ) (b : ℕ) (out : List ℕ) where
       let i : tableOf s .variables ≡ v = variables q ∙ sym (w ∙ ap (λ (x : Header). x .v) e) in
       sym (answer-short s b out (tableOf s) (readable-table s (readable-is s q)) (omega arith) ∙ ap (λ (k : ℕ). answered (OutputShort (setBytes * k)) out) i)
 
-  pub solve-walked : (h : Header) (v : ℕ) → h ≡ headerOf s → v ≡ h .v → verdictOf (reading s) ≡ Readable → setBytes * v ≤ length out → outcomeAs (outcome (roleOrder (tableOf s)) (tableOf s) b) out ≡ answer s b out
+  pub solve-walked : (h : Header) (v : ℕ) → h ≡ headerOf s → v ≡ h .v → verdictOf (reading s) ≡ Readable → setBytes * v ≤ length out → outcomeAs setBytes (outcome (roleOrder (tableOf s)) (tableOf s) b) out ≡ answer s b out
   solve-walked h v e w q l =
       let i : tableOf s .variables ≡ v = variables q ∙ sym (w ∙ ap (λ (x : Header). x .v) e) in
       sym (answer-outcome s (tableOf s) (readable-table s (readable-is s q)) b out (omega arith))

@@ -3,21 +3,21 @@
 --   Budget      == at least so many nodes, or exactly so many
 --   Under g b   == the budget b is one of g
 --   Case        == a table's bytes, budgets, how many variables it has, and what is answered: number, count and sets
---   cases       == P1 to P12, and R1 to R5 with role rows
+--   cases       == P1 to P12, R1 to R5 with role rows, and W1, W2 at the bounds
 --   Is k out r  == the answer r has the case's number and count, place 0, and its sets written to `out`
 --   Answers k   == for every such budget and every output with room the answer is so
 --   cases-hold  == every case answers so
 --   Refusal     == an input that is refused, and the answer
---   refusals    == those of version 2, and of other versions
+--   refusals    == those of version 2, of other versions, and of counts over their bounds
 --   Refuses k   == for every budget and every output the answer is that refusal, and the output stays; and the reader answers so
 --   refusals-hold == every one of them is so refused
 use mathlib.Core.Path.{_≡_, refl, sym, ap, subst, _∙_}
 use mathlib.Core.List.{List, [], _∷_, _++_}
-use Prim.Native.Nat.{ℕ, _*_, _≤_}
+use Prim.Native.Nat.{ℕ, _+_, _*_, _≤_}
 use native.Mathlib.Omega.{arith}
 use lib.Dec.{T}
-use lib.ListN.{length}
-use Rattle.bounds.specs.Bounds.{setBytes}
+use lib.ListN.{length, replicate}
+use Rattle.bounds.specs.Bounds.{maxVariables, setBytes}
 use Rattle.el.specs.Test.{anyBelow, allBelow, anyOf, everyOf, bit}
 use Rattle.el.specs.Description.{sameRole}
 use Rattle.el.specs.Roles.{reachesRole}
@@ -33,7 +33,7 @@ use Rattle.table.specs.Code.{kindOf, within, roleOf, fillerOfKind, fillerOf, en
 use Rattle.table.specs.Reading.{marked, versionKnown, hasRoleRows, headerEnd, roleCount, readCounts, readHeader, readMany, readPair, readCode, readLine, readBody, refusal, readable, headerOf, reading, tableOf}
 use Rattle.table.specs.Bytes.{IsTable}
 use Rattle.table.specs.RefusalLaws.{refused-means}
-use Rattle.output.specs.Written.{littleEndian, assignmentBytes, written}
+use Rattle.output.specs.Written.{littleEndian, assignmentBytes, writtenIn, written}
 use Rattle.makrothel.specs.Answer.{readAs, zeros, readAnswer}
 use Rattle.makrothel.specs.Numbers.{N}
 use Rattle.makrothel.specs.Solve.{Answered, answered, outcomeAs, answer}
@@ -179,8 +179,16 @@ r5 =
       sets = [];
     }
 
+-- as many variables as there may be, and no atom: each has its one set
+abbrev pub w1 : Case
+w1 = case (counts 0 0 maxVariables 0 0) (atLeast (maxVariables + 1)) maxVariables 0 (maxVariables + 1) (replicate maxVariables 0)
+
+-- as many constants and atoms as there may be: constant 31 below restriction 23, no variables; 24 rows of role 0 and top
+abbrev pub w2 : Case
+w2 = case (counts 32 1 0 24 1 ++ (replicate 48 0 ++ (1 ∷ 0x3F ∷ 0x57 ∷ []))) (atLeast 1) 0 8 1 []
+
 abbrev pub cases : List Case
-cases = p1 ∷ p2 ∷ p3 ∷ p4 ∷ p5 ∷ p6 ∷ p7 ∷ p8 ∷ p9 ∷ p10 ∷ p11 ∷ p12 ∷ r1 ∷ r2 ∷ r3 ∷ r4 ∷ r5 ∷ []
+cases = p1 ∷ p2 ∷ p3 ∷ p4 ∷ p5 ∷ p6 ∷ p7 ∷ p8 ∷ p9 ∷ p10 ∷ p11 ∷ p12 ∷ r1 ∷ r2 ∷ r3 ∷ r4 ∷ r5 ∷ w1 ∷ w2 ∷ []
 
 -- an answer with that number, that count, place 0 and those sets
 abbrev pub Is : Case → List ℕ → Answered → Type 0
@@ -204,7 +212,7 @@ abbrev Computes : Case → Type 0
 Computes k =
     (o : Outcome) × (reading (k .bytes) ≡ readable (headerOf (k .bytes)) (tableOf (k .bytes))) × (tableOf (k .bytes) .variables ≡ k .variables)
     × Comes (k .budgets) (tableOf (k .bytes)) o
-    × ((out : List ℕ) → Is k out (outcomeAs o out))
+    × ((out : List ℕ) → Is k out (outcomeAs setBytes o out))
 
 comes : (t : Table) → T (declared t) → (g : Budget) (b : ℕ) (o : Outcome) → Under g b → Comes g t o → outcome (roleOrder t) t b ≡ o
 comes t d (atLeast n) b o u c = let e : N t ≡ n = c .0 in more-budget (roleOrder t) t d n b (omega arith) u ∙ c .1
@@ -215,7 +223,7 @@ unfolding Answers
 answers k c b u out room =
     let is : IsTable (k .bytes) (tableOf (k .bytes)) = is-table (k .bytes) (headerOf (k .bytes)) (tableOf (k .bytes)) (c .1) in
     subst (Is k out) (sym (answer-outcome (k .bytes) (tableOf (k .bytes)) is b out (subst (λ (v : ℕ). setBytes * v ≤ length out) (sym (c .2)) room)
-    ∙ ap (λ (o : Outcome). outcomeAs o out) (comes (tableOf (k .bytes)) (known (k .bytes) (tableOf (k .bytes)) is) (k .budgets) b (c .0) u (c .3))))
+    ∙ ap (λ (o : Outcome). outcomeAs setBytes o out) (comes (tableOf (k .bytes)) (known (k .bytes) (tableOf (k .bytes)) is) (k .budgets) b (c .0) u (c .3))))
     (c .4 out)
 
 every : (ks : List Case) → Every Computes ks → Every Answers ks
@@ -223,10 +231,10 @@ every [] c = tt
 every (k ∷ ks) c = (answers k (c .0), every ks (c .1))
 
 computed : Every Computes cases
-unfolding written assignmentBytes littleEndian outcome count examined firstOf upToFirst nodes treeOf inTurn ends full dead fails ready settled lineVariables chosen induced inducedTo setUnder conjoin atomUnder acyclic reaches path depends setOf holds rowAt atoms anyBelow allBelow anyOf everyOf bit roleOrder reachesRole sameRole tableOf reading readBody readLine readCode readPair readMany readHeader readCounts headerEnd roleCount hasRoleRows versionKnown marked roleOf entryOf entryOfKind fillerOf fillerOfKind within kindOf
-computed = ((solved 1 [], refl, refl, (refl, refl), λ out. (refl, refl)), ((nothing 1, refl, refl, (refl, refl), λ out. (refl, refl)), ((solved 3 (1 ∷ []), refl, refl, (refl, refl), λ out. (refl, refl)), ((solved 2 (0 ∷ []), refl, refl, (refl, refl), λ out. (refl, refl)), ((nothing 3, refl, refl, (refl, refl), λ out. (refl, refl)), ((solved 3 (1 ∷ []), refl, refl, (refl, refl), λ out. (refl, refl)), ((solved 5 (3 ∷ []), refl, refl, (refl, refl), λ out. (refl, refl)), ((solved 14 (2 ∷ 1 ∷ []), refl, refl, (refl, refl), λ out. (refl, refl)), ((budget 13, refl, refl, refl, λ out. (refl, refl)), ((nothing 1, refl, refl, (refl, refl), λ out. (refl, refl)), ((solved 1 [], refl, refl, (refl, refl), λ out. (refl, refl)), ((nothing 33, refl, refl, (refl, refl), λ out. (refl, refl)), ((nothing 1, refl, refl, (refl, refl), λ out. (refl, refl)), ((solved 1 [], refl, refl, (refl, refl), λ out. (refl, refl)), ((nothing 1, refl, refl, (refl, refl), λ out. (refl, refl)), ((nothing 1, refl, refl, (refl, refl), λ out. (refl, refl)), ((solved 1 [], refl, refl, (refl, refl), λ out. (refl, refl)), tt)))))))))))))))))
+unfolding writtenIn assignmentBytes littleEndian outcome count examined firstOf upToFirst nodes treeOf inTurn ends full dead fails ready settled lineVariables chosen induced inducedTo setUnder conjoin atomUnder acyclic reaches path depends setOf holds rowAt atoms anyBelow allBelow anyOf everyOf bit roleOrder reachesRole sameRole tableOf reading readBody readLine readCode readPair readMany readHeader readCounts headerEnd roleCount hasRoleRows versionKnown marked roleOf entryOf entryOfKind fillerOf fillerOfKind within kindOf
+computed = ((solved 1 [], refl, refl, (refl, refl), λ out. (refl, refl)), ((nothing 1, refl, refl, (refl, refl), λ out. (refl, refl)), ((solved 3 (1 ∷ []), refl, refl, (refl, refl), λ out. (refl, refl)), ((solved 2 (0 ∷ []), refl, refl, (refl, refl), λ out. (refl, refl)), ((nothing 3, refl, refl, (refl, refl), λ out. (refl, refl)), ((solved 3 (1 ∷ []), refl, refl, (refl, refl), λ out. (refl, refl)), ((solved 5 (3 ∷ []), refl, refl, (refl, refl), λ out. (refl, refl)), ((solved 14 (2 ∷ 1 ∷ []), refl, refl, (refl, refl), λ out. (refl, refl)), ((budget 13, refl, refl, refl, λ out. (refl, refl)), ((nothing 1, refl, refl, (refl, refl), λ out. (refl, refl)), ((solved 1 [], refl, refl, (refl, refl), λ out. (refl, refl)), ((nothing 33, refl, refl, (refl, refl), λ out. (refl, refl)), ((nothing 1, refl, refl, (refl, refl), λ out. (refl, refl)), ((solved 1 [], refl, refl, (refl, refl), λ out. (refl, refl)), ((nothing 1, refl, refl, (refl, refl), λ out. (refl, refl)), ((nothing 1, refl, refl, (refl, refl), λ out. (refl, refl)), ((solved 1 [], refl, refl, (refl, refl), λ out. (refl, refl)), ((solved 25 (replicate maxVariables 0), refl, refl, (refl, refl), λ out. (refl, refl)), ((nothing 1, refl, refl, (refl, refl), λ out. (refl, refl)), tt)))))))))))))))))))
 
--- P1 TO P12, R1 TO R5
+-- P1 TO P12, R1 TO R5, W1, W2
 pub cases-hold : Every Answers cases
 cases-hold = every cases computed
 
@@ -237,7 +245,8 @@ pub record Refusal : Type 0 where
   pub input : List ℕ
   pub because : Answer
 
--- ten bytes, version 2, good counts; with m 65; q 33 as the last byte; r 0, q 1; r 1, q 1, row 0, 1; the same without its last byte; version 3; version 0x0102
+-- ten bytes, version 2, good counts; with m 65; q 33 as the last byte; r 0, q 1; r 1, q 1, row 0, 1; the same without its last byte; version 3; version 0x0102;
+-- c 33; c 33 with r 17; v 25 with e 33; e 33; c 32 with e 25; c 25 with e 32
 abbrev pub refusals : List Refusal
 refusals =
     record { input = marked-as 2 0 (counts 1 1 1 0 0); because = EndsEarly 10 }
@@ -248,6 +257,12 @@ refusals =
     ∷ record { input = ordered (counts 1 1 1 0 0) 1 (0 ∷ []) []; because = EndsEarly 12 }
     ∷ record { input = marked-as 3 0 (counts 1 1 1 0 0); because = WrongVersion }
     ∷ record { input = marked-as 2 1 (counts 1 1 1 0 0); because = WrongVersion }
+    ∷ record { input = table (counts 33 0 0 0 0); because = OverBound 5 }
+    ∷ record { input = table (counts 33 17 0 0 0); because = OverBound 5 }
+    ∷ record { input = table (counts 0 0 25 33 0); because = OverBound 7 }
+    ∷ record { input = table (counts 0 0 0 33 0); because = OverBound 8 }
+    ∷ record { input = table (counts 32 0 0 25 0); because = OverBound 8 }
+    ∷ record { input = table (counts 25 0 0 32 0); because = OverBound 8 }
     ∷ []
 
 unfoldable pub Refuses : Refusal → Type 0
@@ -263,7 +278,7 @@ all-so (k ∷ ks) c = (refused-so k (c .0), all-so ks (c .1))
 
 refused-computed : Every (λ k. reading (k .input) ≡ refusal (k .because)) refusals
 unfolding reading readBody readLine readCode readPair readMany readHeader readCounts headerEnd roleCount hasRoleRows versionKnown marked roleOf entryOf entryOfKind fillerOf fillerOfKind within kindOf
-refused-computed = (refl, (refl, (refl, (refl, (refl, (refl, (refl, (refl, tt))))))))
+refused-computed = (refl, (refl, (refl, (refl, (refl, (refl, (refl, (refl, (refl, (refl, (refl, (refl, (refl, (refl, tt))))))))))))))
 
 pub refusals-hold : Every Refuses refusals
 refusals-hold = all-so refusals refused-computed

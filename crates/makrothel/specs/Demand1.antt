@@ -6,9 +6,9 @@
 --   demand-1-only    == and the row that belongs to an input is its answer
 --   demand-1-number  == so no number is above that of "budget"
 --   demand-1-refused == a refusal of the reader is said exactly if the bytes are so refused, with its place
---   demand-1-short   == "output shorter" is said exactly if the table is readable and the output shorter than 4v
+--   demand-1-short   == "output shorter" is said exactly if the table is readable and the output shorter than 8v
 --   demand-1-kept    == under every answer but "solved" the output stays
---   demand-1-written == under "solved" the bytes from 4v on stay, and so does the output's length
+--   demand-1-written == under "solved" the bytes from 8v on stay, and so does the output's length
 --   demand-1-read-refused, demand-1-read == the reader's answer to bytes that are refused, and to a readable table
 use mathlib.Core.Path.{_≡_, refl, sym, ap, subst, _∙_}
 use mathlib.Core.Logic.{_↔_, inl, inr}
@@ -55,11 +55,11 @@ module _ (s : List ℕ) (b : ℕ) (out : List ℕ) where
   -- the answer to a refusal of the reader
   pub answer-refused : (why : Answer) → RefusedAt s why → answer s b out ≡ answered why out
   unfolding answer
-  answer-refused why r = ap (λ (x : Reading). readingAs x b out) (means-refusal s why r)
+  answer-refused why r = ap (λ (x : Reading). readingAs setBytes x b out) (means-refusal s why r)
 
   pub answer-short : (t : Table) → IsTable s t → length out < setBytes * t .variables → answer s b out ≡ answered (OutputShort (setBytes * t .variables)) out
   unfolding answer tableAs
-  answer-short t is l = ap (λ (r : Reading). readingAs r b out) (table-read s t is .1) ∙ rw (lt-ltb (length out) (setBytes * t .variables) l, tableAs)
+  answer-short t is l = ap (λ (r : Reading). readingAs setBytes r b out) (table-read s t is .1) ∙ rw (lt-ltb (length out) (setBytes * t .variables) l, tableAs)
 
   abbrev Row : Answer → Type 0
   Row a = NumberAt s b (length out) a
@@ -126,7 +126,7 @@ module _ (s : List ℕ) (b : ℕ) (out : List ℕ) where
       go (is-none t i w l g) o = absurd (omega (arith, o .1))
       go (is-budget t i w l) o = absurd (omega (arith, o .1))
 
-  -- "OUTPUT SHORTER THAN 4v BYTES"
+  -- "OUTPUT SHORTER", OF 8v BYTES
   pub demand-1-short : Said OutputShort (answer s b out .says) ↔ ((t : Table) × IsTable s t × (length out < setBytes * t .variables))
   demand-1-short = ((λ w. go demand-1-row (ap (λ (a : Answer). handed a .number) (w .1))), λ w. (setBytes * w .0 .variables, demand-1-only _ (too-short (w .0) (w .1) (w .2))))
     where
@@ -148,7 +148,7 @@ module _ (s : List ℕ) (b : ℕ) (out : List ℕ) where
       go (is-none t i w l g) f = refl
       go (is-budget t i w l) f = refl
 
-  -- "SOLVED" CHANGES AT MOST THE FIRST 4v BYTES
+  -- "SOLVED" CHANGES AT MOST THE FIRST 8v BYTES
   pub demand-1-written : Said Solved (answer s b out .says)
       → (drop (setBytes * tableOf s .variables) (answer s b out .output) ≡ drop (setBytes * tableOf s .variables) out) × (length (answer s b out .output) ≡ length out)
   unfolding FirstSolving IsAssignment
@@ -160,7 +160,7 @@ module _ (s : List ℕ) (b : ℕ) (out : List ℕ) where
       go (is-solved t i w l a f) =
           let e : length a ≡ tableOf s .variables = f .0 .0 ∙ ap (λ (u : Table). u .variables) (table-is s t i) in
           let z : length a ≡ t .variables = f .0 .0 in
-          (written-behind (tableOf s .variables) a out e, written-length a out (omega arith))
+          (written-behind setBytes (tableOf s .variables) a out e, written-length setBytes a out (omega arith))
       go (is-none t i w l g) = (refl, refl)
       go (is-budget t i w l) = (refl, refl)
 

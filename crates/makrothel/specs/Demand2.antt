@@ -65,13 +65,13 @@ module _ (s : List ℕ) (t : Table) (is : IsTable s t) where
       (layout s (subst (λ (r : Reading). T (isReadable r)) (sym (table-read s t is .1)) tt) .all-declared)
 
 module _ (s : List ℕ) (t : Table) (is : IsTable s t) (b : ℕ) (out : List ℕ) (room : setBytes * t .variables ≤ length out) where
-  pub answer-outcome : answer s b out ≡ outcomeAs (outcome (roleOrder t) t b) out
+  pub answer-outcome : answer s b out ≡ outcomeAs setBytes (outcome (roleOrder t) t b) out
   unfolding answer tableAs
-  answer-outcome = ap (λ (r : Reading). readingAs r b out) (table-read s t is .1) ∙ rw (le-ltb (length out) (setBytes * t .variables) room, tableAs)
+  answer-outcome = ap (λ (r : Reading). readingAs setBytes r b out) (table-read s t is .1) ∙ rw (le-ltb (length out) (setBytes * t .variables) room, tableAs)
 
   -- BUDGET
   pub demand-2-budget : b < N t → answer s b out ≡ answered (Budget b) out
-  demand-2-budget over = answer-outcome ∙ ap (λ (o : Outcome). outcomeAs o out) (outcome-beyond (roleOrder t) t (known s t is) b over)
+  demand-2-budget over = answer-outcome ∙ ap (λ (o : Outcome). outcomeAs setBytes o out) (outcome-beyond (roleOrder t) t (known s t is) b over)
 
   -- "any readable table with budget 0 and enough room gives 9, count 0"
   pub demand-2-no-budget : b ≡ 0 → answer s b out ≡ answered (Budget 0) out
@@ -87,7 +87,7 @@ module _ (s : List ℕ) (t : Table) (is : IsTable s t) (b : ℕ) (out : List ℕ
       bool : (m : Assignment) → Solves (roleOrder t) t m → T (solves (roleOrder t) t m)
       bool m = solves-means (roleOrder t) t (known s t is) m .1
 
-      go : (o : Outcome) → OutcomeSays (roleOrder t) t b o → answer s b out ≡ outcomeAs o out → Within
+      go : (o : Outcome) → OutcomeSays (roleOrder t) t b o → answer s b out ≡ outcomeAs setBytes o out → Within
       go (solved n a) w e =
           inl (
             a,

@@ -125,7 +125,7 @@ module _ (s : List ℕ) (b c : ℕ) (out more : List ℕ) where
       let w = solved-row s b out e in
       let h : w .0 .variables ≡ tableOf s .variables = ap (λ (t : Table). t .variables) (table-is s (w .0) (w .1)) in
       same _ _ _ (demand-2-solved s (w .0) (w .1) b out (w .2) (w .3) (w .4) (w .5)) (demand-2-solved s (w .0) (w .1) c more (omega arith) (omega (arith, w .3)) (w .4) (w .5))
-      (λ _. written-start (tableOf s .variables) (w .4) out (w .5 .0 .0 ∙ h) ∙ sym (written-start (tableOf s .variables) (w .4) more (w .5 .0 .0 ∙ h)))
+      (λ _. written-start setBytes (tableOf s .variables) (w .4) out (w .5 .0 .0 ∙ h) ∙ sym (written-start setBytes (tableOf s .variables) (w .4) more (w .5 .0 .0 ∙ h)))
   demand-3-budget (inr e) l r =
       let w = none-row s b out e in
       let h : w .0 .variables ≡ tableOf s .variables = ap (λ (t : Table). t .variables) (table-is s (w .0) (w .1)) in

@@ -127,7 +127,7 @@ module _ (s : List ℕ) (ok : T (isReadable (reading s))) where
   here-is = layout s ok
 
   few : (tableOf s .constants ≤ 0x20) × (length (tableOf s .rows) ≤ 0x20)
-  few = (omega (arith, here-is .constants, here-is .few-atoms), omega (arith, here-is .rows, here-is .few-atoms))
+  few = (omega (arith, here-is .constants, here-is .few-constants), omega (arith, here-is .rows, here-is .few-restrictions))
 
   long-role-rows : length (flatMap writtenRoleRow (tableOf s .roleRows)) ≡ 2 * headerOf s .q
   long-role-rows = role-rows-length (tableOf s .roleRows) ∙ ap (λ (k : ℕ). 2 * k) (here-is .role-rows)

@@ -9,5 +9,7 @@ pub mod Demand2
 pub mod Demand3
 pub mod Cases
 pub mod Versions
+pub mod Narrow
+pub mod NarrowLaws
 pub mod Instances
 pub mod C

@@ -35,7 +35,7 @@ N t = count (roleOrder t) t
 pub data NumberAt (s : List ℕ) (b room : ℕ) : Answer → Type 0 where
   -- what is wrong with the bytes
   refused : {why : Answer} → RefusedAt s why → NumberAt s b room why
-  -- "output shorter than 4v bytes", 4v
+  -- "output shorter than 4v bytes", "Number 7 now speaks of 8v"
   too-short : (t : Table) → IsTable s t → room < setBytes * t .variables → NumberAt s b room (OutputShort (setBytes * t .variables))
   -- "solved", N
   is-solved : (t : Table) → IsTable s t → setBytes * t .variables ≤ room → N t ≤ b → (a : Assignment) → FirstSolving t a → NumberAt s b room (Solved (N t))

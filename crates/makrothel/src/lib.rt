@@ -118,7 +118,7 @@ pub type SolveAnswer = answer::Handed;
 // The answer to the end of a walk; only a walk that found an assignment writes.
 fn finish(walked: Walked, out: &mut [u8]) -> Answer
     requires { ⌜ (walked .sets .chosen ≤ maxVariables) × (setBytes * walked .sets .chosen ≤ length (now out)) ⌝ }
-    ensures { λ r. ⌜ answered r (now (out .exit)) ≡ outcomeAs (outcomeOf walked) (now (out .entry)) ⌝ }
+    ensures { λ r. ⌜ answered r (now (out .exit)) ≡ outcomeAs setBytes (outcomeOf walked) (now (out .entry)) ⌝ }
 {
     let count = walked.count;
     let end = walked.end;

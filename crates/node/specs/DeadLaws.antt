@@ -29,7 +29,7 @@ use Rattle.el.specs.ReachLaws.{acyclic-same}
 use Rattle.el.specs.InducedLaws.{induced-same}
 use Rattle.el.specs.Walk.{lineVariables, settled, ready, fails, dead}
 use Rattle.el.specs.NodeLaws.{line-same, dead-cyclic, dead-lines}
-use Rattle.bounds.specs.Bounds.{maxAtoms, maxVariables, maxLines}
+use Rattle.bounds.specs.Bounds.{maxRestrictions, maxAtoms, maxVariables, maxLines}
 use Rattle.table.specs.Layout.{Layout, lineAt, lineStart}
 use Rattle.table.specs.Reading.{tableOf, headerOf}
 use Rattle.table.specs.LayoutLaws.{layout}
@@ -144,7 +144,7 @@ module _ {s : List ℕ} {counts : Counts} {sets : Sets} (given : NodeGiven s cou
     pub node-depends : (n : ℕ) → n ≤ counts .v → DependsGiven (p .fill) (counts .c) (counts .e) n
     node-depends n h = record {
       few-atoms = node-counts .0;
-      room = let a : counts .c + counts .e ≤ maxAtoms = node-counts .0 in let r : length (p .fill) ≡ maxAtoms = ready-made .fill-room in omega arith;
+      room = let a : headerOf s .e ≤ maxRestrictions = node-layout .few-restrictions in let q : counts .e ≡ headerOf s .e = given .counts-of .restrictions in let r : length (p .fill) ≡ maxRestrictions = ready-made .fill-room in omega arith;
       few-variables = let f : headerOf s .v ≤ maxVariables = node-layout .few-variables in let q : counts .v ≡ headerOf s .v = given .counts-of .variables in omega arith;
     }
 

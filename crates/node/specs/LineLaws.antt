@@ -17,7 +17,7 @@ use Rattle.el.specs.Test.{anyOf}
 use Rattle.el.specs.TestLaws.{anyOf-append}
 use Rattle.el.specs.Table.{Entry, constant, Row, Line}
 use Rattle.el.specs.Walk.{entryVariables, entriesVariables, lineVariables}
-use Rattle.bounds.specs.Bounds.{maxAtoms, maxVariables}
+use Rattle.bounds.specs.Bounds.{maxRestrictions, maxVariables}
 use Rattle.table.specs.Reading.{reading, isReadable, headerOf}
 use Rattle.table.specs.Layout.{lineStart, IsEntryCode, AtLine}
 use Rattle.table.specs.LayoutLaws.{layout, start-next, line-inside, left-many}
@@ -25,10 +25,10 @@ use Rattle.node.specs.Mask.{Masks, isAmong, MaskFits, leftTo}
 use Rattle.node.specs.MaskLaws.{masks-none, masks-or}
 use Rattle.node.specs.CodeLaws.{entry-fits}
 
-pub line-fits : (s : List ℕ) → T (isReadable (reading s)) → (fill : List ℕ) (b : ℕ) (x : Entry) → length fill ≡ maxAtoms → IsEntryCode s x b → MaskFits fill b
+pub line-fits : (s : List ℕ) → T (isReadable (reading s)) → (fill : List ℕ) (b : ℕ) (x : Entry) → length fill ≡ maxRestrictions → IsEntryCode s x b → MaskFits fill b
 unfolding IsEntryCode
 line-fits s ok fill b x room is =
-    let v : headerOf s .v ≤ maxVariables = layout s ok .few-variables in let a : headerOf s .c + headerOf s .e ≤ maxAtoms = layout s ok .few-atoms in
+    let v : headerOf s .v ≤ maxVariables = layout s ok .few-variables in let a : headerOf s .e ≤ maxRestrictions = layout s ok .few-restrictions in
     entry-fits (headerOf s .c) (headerOf s .e) (headerOf s .v) b x is fill (omega arith) (omega arith)
 
 pub line-next : (s : List ℕ) → T (isReadable (reading s)) → (n at p : ℕ) → n < headerOf s .m → at ≡ lineStart s n → AtLine s at (λ l. p ≡ length (l .left))

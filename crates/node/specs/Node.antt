@@ -22,7 +22,7 @@ use Rattle.el.specs.Table.{Line, Table, roleOrder}
 use Rattle.el.specs.Meaning.{holds}
 use Rattle.el.specs.Assignment.{induced}
 use Rattle.el.specs.Walk.{Node, fails}
-use Rattle.bounds.specs.Bounds.{maxAtoms, maxVariables, maxLines}
+use Rattle.bounds.specs.Bounds.{maxRestrictions, maxAtoms, maxVariables, maxLines}
 use Rattle.table.specs.Reading.{reading, isReadable, tableOf, headerOf}
 use Rattle.table.specs.Layout.{lineAt}
 use Rattle.order.specs.Given.{RowsGiven}
@@ -52,7 +52,7 @@ pub record Prepares (s : List ℕ) (p : Prepared) : Type 0 where
   pub fills : FillMasks (tableOf s .rows) (headerOf s .e) (p .fill)
   pub masks : LineMasks (tableOf s) (headerOf s .m) (p .mask)
   pub starts : LineStarts s (headerOf s .m) (p .start)
-  pub fill-room : length (p .fill) ≡ maxAtoms
+  pub fill-room : length (p .fill) ≡ maxRestrictions
   pub mask-room : length (p .mask) ≡ maxLines
   pub start-room : length (p .start) ≡ maxLines
 

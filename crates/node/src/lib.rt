@@ -20,7 +20,7 @@ ghost use Rattle.el.specs.Test.{bit};
 ghost use Rattle.el.specs.Table.{Entry, Row, Table, declared, roleOrder};
 ghost use Rattle.el.specs.Assignment.{acyclic};
 ghost use Rattle.el.specs.Walk.{entryVariables, settled, dead};
-ghost use Rattle.bounds.specs.Bounds.{maxAtoms, maxVariables};
+ghost use Rattle.bounds.specs.Bounds.{maxRestrictions, maxAtoms, maxVariables};
 ghost use Rattle.table.specs.Code.{kindOf, entryOf};
 ghost use Rattle.table.specs.Reading.{reading, isReadable, tableOf, headerOf};
 ghost use Rattle.table.specs.Layout.{LineBegins, AtLine};
@@ -58,9 +58,9 @@ struct Lines {
 // What is the same at every node: the rows for the line test, the mask of the variable inside each restriction, the mask of the
 // variables of each line, and the byte where each line begins.
 pub struct Prepared {
-    pub over: [RowMask; bounds::MAX_ATOMS],
-    pub inner: [u8; bounds::MAX_ATOMS],
-    pub fill: [VariableMask; bounds::MAX_ATOMS],
+    pub over: [RowMask; bounds::MAX_RESTRICTIONS],
+    pub inner: [u8; bounds::MAX_RESTRICTIONS],
+    pub fill: [VariableMask; bounds::MAX_RESTRICTIONS],
     pub mask: [VariableMask; bounds::MAX_LINES],
     pub start: [Place; bounds::MAX_LINES],
 }
@@ -93,11 +93,11 @@ fn variable_mask(code: u8) -> VariableMask
 }
 
 // The mask of the variable inside each restriction.
-fn fill_masks(table: &[u8], e: usize) -> [VariableMask; bounds::MAX_ATOMS]
+fn fill_masks(table: &[u8], e: usize) -> [VariableMask; bounds::MAX_RESTRICTIONS]
     requires { ⌜ T (isReadable (reading (now table))) × (e ≡ headerOf (now table) .e) ⌝ }
     ensures { λ r. ⌜ FillMasks (tableOf (now (table .entry)) .rows) e r ⌝ }
 {
-    let mut fill: [VariableMask; bounds::MAX_ATOMS] = [0; bounds::MAX_ATOMS];
+    let mut fill: [VariableMask; bounds::MAX_RESTRICTIONS] = [0; bounds::MAX_RESTRICTIONS];
     let mut k = 0;
     while k < e {
         fill[k] = variable_mask(table::filler_of(table, k));
@@ -234,7 +234,7 @@ fn entry_mask(fill: &[VariableMask], code: u8) -> VariableMask
 // The mask of the variables of the line that begins at the byte `at`, fillers included.
 fn line_mask(table: &[u8], fill: &[VariableMask], at: usize) -> VariableMask
     requires { ⌜ T (isReadable (reading (now table))) × FillMasks (tableOf (now table) .rows) (headerOf (now table) .e) (now fill) ⌝ }
-    requires { ⌜ (length (now fill) ≡ maxAtoms) × LineBegins (now table) at ⌝ }
+    requires { ⌜ (length (now fill) ≡ maxRestrictions) × LineBegins (now table) at ⌝ }
     ensures { λ r. ⌜ AtLine (now (table .entry)) at (λ l. LineMask (tableOf (now (table .entry)) .rows) l r) ⌝ }
 {
     let p = table::left_count(table, at);
@@ -250,7 +250,7 @@ fn line_mask(table: &[u8], fill: &[VariableMask], at: usize) -> VariableMask
 // The mask of each line's variables, and the byte where it begins.
 fn lines_of(table: &[u8], fill: &[VariableMask], m: usize) -> Lines
     requires { ⌜ T (isReadable (reading (now table))) × FillMasks (tableOf (now table) .rows) (headerOf (now table) .e) (now fill) ⌝ }
-    requires { ⌜ (length (now fill) ≡ maxAtoms) × (m ≡ headerOf (now table) .m) ⌝ }
+    requires { ⌜ (length (now fill) ≡ maxRestrictions) × (m ≡ headerOf (now table) .m) ⌝ }
     ensures { λ r. ⌜ LineMasks (tableOf (now (table .entry))) m (r .mask) × LineStarts (now (table .entry)) m (r .start) ⌝ }
 {
     let mut mask: [VariableMask; bounds::MAX_LINES] = [0; bounds::MAX_LINES];

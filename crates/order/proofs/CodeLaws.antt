@@ -11,7 +11,7 @@ use Prim.Native.Nat.{ℕ, _+_, _*_, _%_, _^_, _≤_, _<_}
 use native.Mathlib.Omega.{arith}
 use lib.Dec.{lt→ltb}
 use lib.ListN.{length, getD}
-use Rattle.bounds.specs.Bounds.{maxAtoms, maxVariables, setBits, setNumbers}
+use Rattle.bounds.specs.Bounds.{maxConstants, maxAtoms, maxVariables, setBits, setNumbers}
 use Rattle.el.specs.Table.{Filler, topF, constantF, variableF, Entry, constant, restriction, variable, Table}
 use Rattle.el.specs.Assignment.{Assignment, setOf}
 use Rattle.table.specs.declared.Kind.{Kind}
@@ -43,14 +43,14 @@ entry-read c e v b x q = go (entry-writes c e v b x q)
     go (enters-restriction k i l) = ap entryFromKind i
     go (enters-variable k i l) = ap entryFromKind i
 
-pub filler-more : (c v : ℕ) → c ≤ maxAtoms → v ≤ maxVariables → (b : ℕ) (f : Filler) → fillerOf c v b ≡ some f → FillerFits b
+pub filler-more : (c v : ℕ) → c ≤ maxConstants → v ≤ maxVariables → (b : ℕ) (f : Filler) → fillerOf c v b ≡ some f → FillerFits b
 unfolding FillerFits fillerOf fillerOfKind
 filler-more c v h m b f q = go (filler-writes c v b f q) ∙ ap some (sym (filler-read c v b f q))
   where
-    go : {f : Filler} → WritesFiller c v b f → fillerOf maxAtoms maxVariables b ≡ some f
-    go (fills-top i) = ap (fillerOfKind maxAtoms maxVariables) i
-    go (fills-constant k i l) = ap (fillerOfKind maxAtoms maxVariables) i ∙ within-is k maxAtoms (constantF k) (lt→ltb k maxAtoms (omega arith))
-    go (fills-variable k i l) = ap (fillerOfKind maxAtoms maxVariables) i ∙ within-is k maxVariables (variableF k) (lt→ltb k maxVariables (omega arith))
+    go : {f : Filler} → WritesFiller c v b f → fillerOf maxConstants maxVariables b ≡ some f
+    go (fills-top i) = ap (fillerOfKind maxConstants maxVariables) i
+    go (fills-constant k i l) = ap (fillerOfKind maxConstants maxVariables) i ∙ within-is k maxConstants (constantF k) (lt→ltb k maxConstants (omega arith))
+    go (fills-variable k i l) = ap (fillerOfKind maxConstants maxVariables) i ∙ within-is k maxVariables (variableF k) (lt→ltb k maxVariables (omega arith))
 
 pub entry-more : (c e v : ℕ) → c + e ≤ maxAtoms → v ≤ maxVariables → (b : ℕ) (x : Entry) → entryOf c e v b ≡ some x → EntryFits c b
 unfolding EntryFits entryOf entryOfKind
@@ -65,11 +65,11 @@ entry-more c e v h m b x q = (e, h, go (entry-writes c e v b x q) ∙ ap some (s
 module _ (b k w : ℕ) (same : w ≡ k) where
   pub filler-constant-fits : FillerFits b → kindOf b ≡ Constant k → w < setBits
   unfolding FillerFits fillerOf fillerOfKind fillerFrom
-  filler-constant-fits q e = let h : k < maxAtoms = within-some k maxAtoms (constantF k) (fillerFromKind (kindOf b)) (ap (fillerOfKind maxAtoms maxVariables) (sym e) ∙ q) .0 in omega arith
+  filler-constant-fits q e = let h : k < maxConstants = within-some k maxConstants (constantF k) (fillerFromKind (kindOf b)) (ap (fillerOfKind maxConstants maxVariables) (sym e) ∙ q) .0 in omega arith
 
   pub filler-variable-fits : (a : Assignment) → SetsGiven a → FillerFits b → kindOf b ≡ Variable k → w < length a
   unfolding FillerFits fillerOf fillerOfKind fillerFrom
-  filler-variable-fits a g q e = let l : length a ≡ maxVariables = g .many in let h : k < maxVariables = within-some k maxVariables (variableF k) (fillerFromKind (kindOf b)) (ap (fillerOfKind maxAtoms maxVariables) (sym e) ∙ q) .0 in omega arith
+  filler-variable-fits a g q e = let l : length a ≡ maxVariables = g .many in let h : k < maxVariables = within-some k maxVariables (variableF k) (fillerFromKind (kindOf b)) (ap (fillerOfKind maxConstants maxVariables) (sym e) ∙ q) .0 in omega arith
 
   module _ (c : ℕ) (q : EntryFits c b) where
     pub entry-constant-fits : kindOf b ≡ Constant k → w < setBits

@@ -35,10 +35,11 @@ pub asking : (s over inner : List ℕ) (a : Assignment) (c e v at : ℕ) → Lin
 asking s over inner a c e v at g =
     record {
       few-atoms = few-atoms s c e (g .readable) (g .constants) (g .restrictions);
+      few-rows = (let h = g .restrictions in let l = layout s (g .readable) .few-restrictions in omega arith);
       over-many = g .rows .over-many;
       inner-many = g .rows .inner-many;
       sets = g .sets;
-      fits = λ k h. filler-more (headerOf s .c) (headerOf s .v) (let l : headerOf s .c + headerOf s .e ≤ maxAtoms = layout s (g .readable) .few-atoms in omega arith) (layout s (g .readable) .few-variables) (getD inner k 0) (rowAt (tableOf s .rows) k .filler)
+      fits = λ k h. filler-more (headerOf s .c) (headerOf s .v) (layout s (g .readable) .few-constants) (layout s (g .readable) .few-variables) (getD inner k 0) (rowAt (tableOf s .rows) k .filler)
           (unfold IsRowFiller in g .rows .inner-is k (subst (λ (n : ℕ). k < n) (g .restrictions) h));
     }
 

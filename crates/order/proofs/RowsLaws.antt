@@ -14,7 +14,7 @@ use lib.ListN.{length, getD, set, replicate, length-set, length-replicate}
 use lib.Seq.{getD-set-same, getD-set-other}
 use lib.Bits.{bitOr}
 use borrow.Author.Tests.{eq-eqb, ne-eqb, lt-ltb, le-ltb}
-use Rattle.bounds.specs.Bounds.{maxAtoms, maxRoles, setBits, setNumbers}
+use Rattle.bounds.specs.Bounds.{maxRestrictions, maxRoles, setBits, setNumbers}
 use Rattle.el.specs.Test.{bit}
 use Rattle.el.specs.TestLaws.{bit-none, and-left, everyOf-at}
 use Rattle.el.specs.Table.{topF, rowAt, roleOrder, fillerDeclared, rowDeclared}
@@ -92,16 +92,16 @@ module _ (s : List ℕ) (ok : T (isReadable (reading s))) (under : List ℕ) (is
       sym (under-bit (tableOf s) under is (rowAt (tableOf s .rows) k .role) (rowAt (tableOf s .rows) j .role) (role-low k hk) (role-low j hj))
       ∙ ap₂ (λ (x y : ℕ). bit x (getD under y 0)) (sym q) (sym p) ∙ ap (bit b) (sym e) ∙ u
 
-pub rows-start : (s : List ℕ) → RowsTo s 0 (replicate maxAtoms 0) (replicate maxAtoms 0)
+pub rows-start : (s : List ℕ) → RowsTo s 0 (replicate maxRestrictions 0) (replicate maxRestrictions 0)
 rows-start s =
     record {
-      over-many = length-replicate {A = ℕ} maxAtoms 0;
-      inner-many = length-replicate {A = ℕ} maxAtoms 0;
+      over-many = length-replicate {A = ℕ} maxRestrictions 0;
+      inner-many = length-replicate {A = ℕ} maxRestrictions 0;
       over-each = λ j h. absurd (let z : ⊥ = omega arith in z);
       inner-each = λ k h. absurd (let z : ⊥ = omega arith in z);
     }
 
-pub rows-step : (s over inner : List ℕ) (n m b e : ℕ) → n < maxAtoms → e ≡ headerOf s .e → RowsTo s n over inner → Over s n e m → IsRowFiller s n b → RowsTo s (n + 1) (set over n m) (set inner n b)
+pub rows-step : (s over inner : List ℕ) (n m b e : ℕ) → n < maxRestrictions → e ≡ headerOf s .e → RowsTo s n over inner → Over s n e m → IsRowFiller s n b → RowsTo s (n + 1) (set over n m) (set inner n b)
 rows-step s over inner n m b e few same r o f =
     record {
       over-many = length-set over n m ∙ r .over-many;
@@ -112,14 +112,14 @@ rows-step s over inner n m b e few same r o f =
   where
     over-here : (j : ℕ) → j < n + 1 → Dec (j ≡ n) → Over s j (headerOf s .e) (getD (set over n m) j 0)
     over-here j h (yes z) =
-        let many : length over ≡ maxAtoms = r .over-many in
+        let many : length over ≡ maxRestrictions = r .over-many in
         subst (λ (i : ℕ). Over s i (headerOf s .e) (getD (set over n m) i 0)) (sym z)
         (subst (Over s n (headerOf s .e)) (sym (getD-set-same over n m 0 (omega arith))) (subst (λ (i : ℕ). Over s n i m) same o))
     over-here j h (no z) = subst (Over s j (headerOf s .e)) (sym (getD-set-other over n j m 0 z)) (r .over-each j (omega arith))
 
     inner-at : (k : ℕ) → k < n + 1 → Dec (k ≡ n) → IsRowFiller s k (getD (set inner n b) k 0)
     inner-at k h (yes z) =
-        let many : length inner ≡ maxAtoms = r .inner-many in
+        let many : length inner ≡ maxRestrictions = r .inner-many in
         subst (λ (i : ℕ). IsRowFiller s i (getD (set inner n b) i 0)) (sym z)
         (subst (IsRowFiller s n) (sym (getD-set-same inner n b 0 (omega arith))) f)
     inner-at k h (no z) = subst (IsRowFiller s k) (sym (getD-set-other inner n k b 0 z)) (r .inner-each k (omega arith))

@@ -16,7 +16,7 @@ use mathlib.Core.Option.{some}
 use Prim.Native.Nat.{ℕ, _+_, _≤_, _<_}
 use lib.Dec.{T, ltb}
 use lib.ListN.{length, getD}
-use Rattle.bounds.specs.Bounds.{maxAtoms, maxVariables}
+use Rattle.bounds.specs.Bounds.{maxConstants, maxRestrictions, maxAtoms, maxVariables}
 use Rattle.el.specs.Test.{bit}
 use Rattle.el.specs.Table.{Filler, topF, constantF, variableF, Entry, constant, restriction, variable, roleOrder, rowAt}
 use Rattle.el.specs.Assignment.{Assignment, acyclic}
@@ -47,14 +47,14 @@ unfoldable pub entryFrom : ℕ → Entry
 entryFrom b = entryFromKind (kindOf b)
 
 unfoldable pub FillerFits : ℕ → Type 0
-FillerFits b = fillerOf maxAtoms maxVariables b ≡ some (fillerFrom b)
+FillerFits b = fillerOf maxConstants maxVariables b ≡ some (fillerFrom b)
 
 unfoldable pub EntryFits : ℕ → ℕ → Type 0
 EntryFits c b = (e : ℕ) × (c + e ≤ maxAtoms) × (entryOf c e maxVariables b ≡ some (entryFrom b))
 
 pub record RowsGiven (s over inner : List ℕ) : Type 0 where
-  pub over-many : length over ≡ maxAtoms
-  pub inner-many : length inner ≡ maxAtoms
+  pub over-many : length over ≡ maxRestrictions
+  pub inner-many : length inner ≡ maxRestrictions
   pub over-is : (j k : ℕ) → j < headerOf s .e → k < headerOf s .e
       → bit k (getD over j 0) ≡ roleOrder (tableOf s) (rowAt (tableOf s .rows) k .role) (rowAt (tableOf s .rows) j .role)
   pub inner-is : (k : ℕ) → k < headerOf s .e → IsRowFiller s k (getD inner k 0)
@@ -63,8 +63,8 @@ unfoldable pub Over : List ℕ → ℕ → ℕ → ℕ → Type 0
 Over s j n m = (k : ℕ) → bit k m ≡ ltb k n && roleOrder (tableOf s) (rowAt (tableOf s .rows) k .role) (rowAt (tableOf s .rows) j .role)
 
 pub record RowsTo (s : List ℕ) (n : ℕ) (over inner : List ℕ) : Type 0 where
-  pub over-many : length over ≡ maxAtoms
-  pub inner-many : length inner ≡ maxAtoms
+  pub over-many : length over ≡ maxRestrictions
+  pub inner-many : length inner ≡ maxRestrictions
   pub over-each : (j : ℕ) → j < n → Over s j (headerOf s .e) (getD over j 0)
   pub inner-each : (k : ℕ) → k < n → IsRowFiller s k (getD inner k 0)
 
@@ -73,8 +73,9 @@ pub record SetsGiven (a : Assignment) : Type 0 where
 
 pub record Asking (over inner : List ℕ) (a : Assignment) (c e : ℕ) : Type 0 where
   pub few-atoms : c + e ≤ maxAtoms
-  pub over-many : length over ≡ maxAtoms
-  pub inner-many : length inner ≡ maxAtoms
+  pub few-rows : e ≤ maxRestrictions
+  pub over-many : length over ≡ maxRestrictions
+  pub inner-many : length inner ≡ maxRestrictions
   pub sets : SetsGiven a
   pub fits : (k : ℕ) → k < e → FillerFits (getD inner k 0)
 

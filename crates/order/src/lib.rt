@@ -27,8 +27,8 @@ ghost use Rattle.order.specs.Asked.{Lowest, setAsked, eachAsked, fillerA
 // The rows of a table for the line test: bit k of `over[j]` says that row k's role lies under row j's, and `inner[k]` is the code of row k's
 // filler.
 pub struct Rows {
-    pub over: [RowMask; bounds::MAX_ATOMS],
-    pub inner: [u8; bounds::MAX_ATOMS],
+    pub over: [RowMask; bounds::MAX_RESTRICTIONS],
+    pub inner: [u8; bounds::MAX_RESTRICTIONS],
 }
 
 // The rows whose roles lie under row j's, by the masks of the roles that lie under each role.
@@ -54,8 +54,8 @@ pub fn rows_of(table: &[u8], e: usize) -> Rows
 {
     let q = table::wide(table::header_of(table).q);
     let under = roles::roles_under(table, q).mask;
-    let mut over: [RowMask; bounds::MAX_ATOMS] = [0; bounds::MAX_ATOMS];
-    let mut inner: [u8; bounds::MAX_ATOMS] = [0; bounds::MAX_ATOMS];
+    let mut over: [RowMask; bounds::MAX_RESTRICTIONS] = [0; bounds::MAX_RESTRICTIONS];
+    let mut inner: [u8; bounds::MAX_RESTRICTIONS] = [0; bounds::MAX_RESTRICTIONS];
     let mut j = 0;
     while j < e {
         over[j] = row_over(table, &under, e, j);
@@ -77,7 +77,7 @@ fn bit_of(s: SetNumber, i: usize) -> bool
 fn lowest(mask: SetNumber) -> usize
     ensures { λ r. ⌜ ((mask ≡ 0 → ⊥) → Lowest mask r) ⌝ }
 {
-    u32::trailing_zeros(mask) as usize
+    bounds::low_zeros(mask)
 }
 
 // One of the first c atoms, the constants, is missing.

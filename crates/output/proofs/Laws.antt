@@ -14,7 +14,7 @@ use lib.ListN.{length, getD, set, take, drop, length-append, length-drop}
 use lib.Seq.{drop-drop, take-all, drop-length, take-suc, length-take-le}
 use borrow.Rule.Slice.PartMut.{putMid, post-is}
 use Rattle.bounds.specs.Bounds.{setBytes}
-use Rattle.output.specs.Written.{littleEndian, putAt, numberAt, widest, assignmentBytes, written}
+use Rattle.output.specs.Written.{littleEndian, putAt, numberAt, widest, assignmentBytes, writtenIn, written}
 use Rattle.output.specs.WrittenLaws.{bytes-more, written-start, written-behind}
 
 put-step : (i k x : ℕ) (l : List ℕ) → i < length l → putAt i (suc k) x l ≡ putAt (suc i) k (x / 256) (set l i (x % 256))
@@ -42,12 +42,12 @@ number-fits k n h l = let p : 256 ^ k ≤ 256 ^ 7 = pow-le-pow-right {n = 256} (
 -- one set more, put in from its own offset on
 written-more : (a out : List ℕ) (x : ℕ)
     → take (setBytes * length a) (written a out) ++ (littleEndian setBytes x ++ drop setBytes (drop (setBytes * length a) (written a out))) ≡ written (a ++ (x ∷ [])) out
-unfolding written
+unfolding writtenIn
 written-more a out x =
-    ap₂ (λ (p q : List ℕ). p ++ (littleEndian setBytes x ++ drop setBytes q)) (written-start (length a) a out refl) (written-behind (length a) a out refl)
-    ∙ ap (λ (q : List ℕ). assignmentBytes a ++ (littleEndian setBytes x ++ q)) (drop-drop setBytes (setBytes * length a) out)
-    ∙ sym (append-assoc (assignmentBytes a) (littleEndian setBytes x) _)
-    ∙ ap₂ (λ (p : List ℕ) (k : ℕ). p ++ drop k out) (sym (bytes-more a x)) (let n : length (a ++ (x ∷ [])) ≡ length a + 1 = length-append a (x ∷ []) in let z : setBytes * length a + setBytes ≡ setBytes * length (a ++ (x ∷ [])) = omega arith in z)
+    ap₂ (λ (p q : List ℕ). p ++ (littleEndian setBytes x ++ drop setBytes q)) (written-start setBytes (length a) a out refl) (written-behind setBytes (length a) a out refl)
+    ∙ ap (λ (q : List ℕ). assignmentBytes setBytes a ++ (littleEndian setBytes x ++ q)) (drop-drop setBytes (setBytes * length a) out)
+    ∙ sym (append-assoc (assignmentBytes setBytes a) (littleEndian setBytes x) _)
+    ∙ ap₂ (λ (p : List ℕ) (k : ℕ). p ++ drop k out) (sym (bytes-more setBytes a x)) (let n : length (a ++ (x ∷ [])) ≡ length a + 1 = length-append a (x ∷ []) in let z : setBytes * length a + setBytes ≡ setBytes * length (a ++ (x ∷ [])) = omega arith in z)
 
 tail-part : (a : ℕ) (l : List ℕ) → take (length l - a) (drop a l) ≡ drop a l
 tail-part a l = take-all (length l - a) (drop a l) (simp length-drop (le-refl (length l - a)))

@@ -4,9 +4,10 @@
 --   putAt i k x l     == the bytes l with the k bytes of x from the byte i on
 --   numberAt k s at   == the number in the k bytes from `at` on
 --   widest            == the largest k of a number that is read
---   assignmentBytes a == the set numbers of the assignment a, one after the other
---   written a out     == the output with them at its start; what stands behind them stays
---   setIn out x       == the set number of variable x, read back
+--   assignmentBytes k a == the set numbers of the assignment a, one after the other, each in k bytes
+--   writtenIn k a out == the output with them at its start; what stands behind them stays
+--   setAt k out x     == the set number of variable x, read back from such an output
+--   written a out, setIn out x == the same with as many bytes as a set number has
 use mathlib.Core.List.{List, [], _∷_, _++_}
 use Prim.Native.Nat.{ℕ, zero, suc, _+_, _*_, _/_, _%_}
 use lib.ListN.{length, take, drop, getD}
@@ -27,15 +28,22 @@ numberAt (suc k) s at = getD s at 0 + 256 * numberAt k s (suc at)
 abbrev pub widest : ℕ
 widest = 8
 
--- "each variable's set number, four bytes"
-unfoldable pub assignmentBytes : List ℕ → List ℕ
-assignmentBytes [] = []
-assignmentBytes (x ∷ a) = littleEndian setBytes x ++ assignmentBytes a
+-- "each variable's set number"
+unfoldable pub assignmentBytes : ℕ → List ℕ → List ℕ
+assignmentBytes k [] = []
+assignmentBytes k (x ∷ a) = littleEndian k x ++ assignmentBytes k a
 
--- "Bytes from 4v on stay"
-unfoldable pub written : List ℕ → List ℕ → List ℕ
-written a out = assignmentBytes a ++ drop (setBytes * length a) out
+-- the bytes behind the sets stay
+unfoldable pub writtenIn : ℕ → List ℕ → List ℕ → List ℕ
+writtenIn k a out = assignmentBytes k a ++ drop (k * length a) out
 
--- "the part of the output that starts at four times its number"
+-- the part of the output that starts at so many times the variable's number
+abbrev pub setAt : ℕ → List ℕ → ℕ → ℕ
+setAt k out x = numberAt k out (k * x)
+
+-- "the output eight bytes per variable"
+abbrev pub written : List ℕ → List ℕ → List ℕ
+written = writtenIn setBytes
+
 abbrev pub setIn : List ℕ → ℕ → ℕ
-setIn out x = numberAt setBytes out (setBytes * x)
+setIn = setAt setBytes

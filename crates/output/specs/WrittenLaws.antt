@@ -9,40 +9,40 @@ use mathlib.Core.Path.{_≡_, refl, ap, ap₂, _∙_}
 use mathlib.Core.List.{List, [], _∷_, _++_, append-assoc, append-nil}
 use Prim.Native.Nat.{ℕ, zero, suc, _<_, _+_, _*_, _/_, _%_, _^_, _≤_}
 use native.Mathlib.Omega.{arith}
-use native.Mathlib.Nat.{pow-suc}
+use native.Mathlib.Nat.{pow-suc, mul-suc}
 use lib.ListN.{length, getD, take, drop, length-append, length-drop}
 use lib.Seq.{take-at, drop-at}
-use Rattle.bounds.specs.Bounds.{setBytes, setNumbers}
-use Rattle.output.specs.Written.{littleEndian, numberAt, assignmentBytes, setIn, written}
+use Rattle.output.specs.Written.{littleEndian, numberAt, assignmentBytes, writtenIn, setAt}
 
 pub littleEndian-length : (k x : ℕ) → length (littleEndian k x) ≡ k
 unfolding littleEndian
 littleEndian-length zero x = refl
 littleEndian-length (suc k) x = ap suc (littleEndian-length k (x / 256))
 
-pub bytes-length : (a : List ℕ) → length (assignmentBytes a) ≡ setBytes * length a
-unfolding assignmentBytes
-bytes-length [] = refl
-bytes-length (x ∷ a) = simp length-append (omega (arith, bytes-length a, littleEndian-length setBytes x))
+module _ (k : ℕ) where
+  pub bytes-length : (a : List ℕ) → length (assignmentBytes k a) ≡ k * length a
+  unfolding assignmentBytes
+  bytes-length [] = omega arith
+  bytes-length (x ∷ a) = simp length-append (omega (arith, bytes-length a, littleEndian-length k x, mul-suc k (length a)))
 
-pub bytes-more : (a : List ℕ) (x : ℕ) → assignmentBytes (a ++ (x ∷ [])) ≡ assignmentBytes a ++ littleEndian setBytes x
-unfolding assignmentBytes
-bytes-more [] x = append-nil (littleEndian setBytes x)
-bytes-more (y ∷ a) x = ap (λ (l : List ℕ). littleEndian setBytes y ++ l) (bytes-more a x) ∙ rw append-assoc
+  pub bytes-more : (a : List ℕ) (x : ℕ) → assignmentBytes k (a ++ (x ∷ [])) ≡ assignmentBytes k a ++ littleEndian k x
+  unfolding assignmentBytes
+  bytes-more [] x = append-nil (littleEndian k x)
+  bytes-more (y ∷ a) x = ap (λ (l : List ℕ). littleEndian k y ++ l) (bytes-more a x) ∙ rw append-assoc
 
-pub written-length : (a out : List ℕ) → setBytes * length a ≤ length out → length (written a out) ≡ length out
-unfolding written
-written-length a out h = simp (length-append, bytes-length, length-drop) (omega arith)
+  pub written-length : (a out : List ℕ) → k * length a ≤ length out → length (writtenIn k a out) ≡ length out
+  unfolding writtenIn
+  written-length a out h = simp (length-append, bytes-length, length-drop) (omega arith)
 
--- with a set for each of v variables: the bytes before 4v, and those behind
-module _ (v : ℕ) (a out : List ℕ) (e : length a ≡ v) where
-  pub written-start : take (setBytes * v) (written a out) ≡ assignmentBytes a
-  unfolding written
-  written-start = take-at (assignmentBytes a) _ _ (bytes-length a ∙ ap (λ (k : ℕ). setBytes * k) e)
+  -- with a set for each of v variables: the bytes of the sets, and those behind
+  module _ (v : ℕ) (a out : List ℕ) (e : length a ≡ v) where
+    pub written-start : take (k * v) (writtenIn k a out) ≡ assignmentBytes k a
+    unfolding writtenIn
+    written-start = take-at (assignmentBytes k a) _ _ (bytes-length a ∙ ap (λ (n : ℕ). k * n) e)
 
-  pub written-behind : drop (setBytes * v) (written a out) ≡ drop (setBytes * v) out
-  unfolding written
-  written-behind = drop-at (assignmentBytes a) _ _ (bytes-length a ∙ ap (λ (k : ℕ). setBytes * k) e) ∙ ap (λ (k : ℕ). drop (setBytes * k) out) e
+    pub written-behind : drop (k * v) (writtenIn k a out) ≡ drop (k * v) out
+    unfolding writtenIn
+    written-behind = drop-at (assignmentBytes k a) _ _ (bytes-length a ∙ ap (λ (n : ℕ). k * n) e) ∙ ap (λ (n : ℕ). drop (k * n) out) e
 
 -- ── read back ──
 
@@ -63,17 +63,18 @@ here (suc k) x s h =
     let e : numberAt k (littleEndian k (x / 256) ++ s) 0 ≡ x / 256 = here k (x / 256) s (omega arith) in
     ap (λ (n : ℕ). x % 256 + 256 * n) (behind-one k (x % 256) (littleEndian k (x / 256) ++ s) 0 ∙ e) ∙ (let z : x % 256 + 256 * (x / 256) ≡ x = omega arith in z)
 
-bytes-back : (a l : List ℕ) (x : ℕ) → x < length a → getD a x 0 < setNumbers → numberAt setBytes (assignmentBytes a ++ l) (setBytes * x) ≡ getD a x 0
-unfolding assignmentBytes
-bytes-back [] l x h w = absurd (let z : ⊥ = omega arith in z)
-bytes-back (y ∷ a) l zero h w =
-    ap (λ (k : List ℕ). numberAt setBytes k 0) (append-assoc (littleEndian setBytes y) (assignmentBytes a) l) ∙ here setBytes y (assignmentBytes a ++ l) w
-bytes-back (y ∷ a) l (suc x) h w =
-    ap₂ (numberAt setBytes) (append-assoc (littleEndian setBytes y) (assignmentBytes a) l) (let e : setBytes * suc x ≡ length (littleEndian setBytes y) + setBytes * x = omega (arith, littleEndian-length setBytes y) in e)
-    ∙ behind setBytes (littleEndian setBytes y) (assignmentBytes a ++ l) (setBytes * x)
-    ∙ bytes-back a l x (let k : suc x < suc (length a) = h in omega arith) w
+module _ (k : ℕ) where
+  bytes-back : (a l : List ℕ) (x : ℕ) → x < length a → getD a x 0 < 256 ^ k → numberAt k (assignmentBytes k a ++ l) (k * x) ≡ getD a x 0
+  unfolding assignmentBytes
+  bytes-back [] l x h w = absurd (let z : ⊥ = omega arith in z)
+  bytes-back (y ∷ a) l zero h w =
+      ap₂ (numberAt k) (append-assoc (littleEndian k y) (assignmentBytes k a) l) (let z : k * zero ≡ 0 = omega arith in z) ∙ here k y (assignmentBytes k a ++ l) w
+  bytes-back (y ∷ a) l (suc x) h w =
+      ap₂ (numberAt k) (append-assoc (littleEndian k y) (assignmentBytes k a) l) (let e : k * suc x ≡ length (littleEndian k y) + k * x = omega (arith, littleEndian-length k y, mul-suc k x) in e)
+      ∙ behind k (littleEndian k y) (assignmentBytes k a ++ l) (k * x)
+      ∙ bytes-back a l x (let m : suc x < suc (length a) = h in omega arith) w
 
--- WHAT WAS WRITTEN IS READ BACK
-pub set-back : (a out : List ℕ) (x : ℕ) → x < length a → getD a x 0 < setNumbers → setIn (written a out) x ≡ getD a x 0
-unfolding written
-set-back a out x h w = bytes-back a (drop (setBytes * length a) out) x h w
+  -- WHAT WAS WRITTEN IS READ BACK
+  pub set-back : (a out : List ℕ) (x : ℕ) → x < length a → getD a x 0 < 256 ^ k → setAt k (writtenIn k a out) x ≡ getD a x 0
+  unfolding writtenIn
+  set-back a out x h w = bytes-back a (drop (k * length a) out) x h w

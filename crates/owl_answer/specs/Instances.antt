@@ -34,7 +34,7 @@ nested-bytes = refl
 -- within the bounds
 nested-bounds : InBounds (flatTable file)
 unfolding flatTable tableOf rowsAll linesAll statementsOf nameOf constantNumber openNumber roleNumber namesOf keep sameBytes beginsWith thingBytes openBytes axiomsOf classesOf propertiesOf once isAmong place anyOf sameRow countsOf everyOf
-nested-bounds = record { counts = record { few-roles = omega arith; few-variables = omega arith; few-atoms = omega arith; few-lines = omega arith; few-role-rows = omega arith }; left = tt }
+nested-bounds = record { counts = record { few-constants = omega arith; few-roles = omega arith; few-variables = omega arith; few-restrictions = omega arith; few-atoms = omega arith; few-lines = omega arith; few-role-rows = omega arith }; left = tt }
 
 -- a buffer of 40 bytes: two are left
 abbrev pub buffer : List ℕ

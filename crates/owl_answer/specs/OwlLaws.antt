@@ -80,16 +80,27 @@ decide false = no (λ u. u)
 
 -- the bounds of the counts, one by one
 dec-within : (t : Table) → Dec (Within bounds (countsOf 1 t))
-dec-within t = go (decLe (countsOf 1 t .r) (bounds .roles)) (decLe (countsOf 1 t .v) (bounds .variables)) (decLe (countsOf 1 t .c + countsOf 1 t .e) (bounds .atoms)) (decLe (countsOf 1 t .m) (bounds .lines)) (decLe (countsOf 1 t .q) (bounds .roleRows))
+dec-within t =
+    names (decLe (countsOf 1 t .c) (bounds .constants)) (decLe (countsOf 1 t .r) (bounds .roles)) (decLe (countsOf 1 t .v) (bounds .variables))
+    (rows (decLe (countsOf 1 t .e) (bounds .restrictions)) (decLe (countsOf 1 t .c + countsOf 1 t .e) (bounds .atoms)) (decLe (countsOf 1 t .m) (bounds .lines)) (decLe (countsOf 1 t .q) (bounds .roleRows)))
   where
-    go : Dec (countsOf 1 t .r ≤ bounds .roles) → Dec (countsOf 1 t .v ≤ bounds .variables) → Dec (countsOf 1 t .c + countsOf 1 t .e ≤ bounds .atoms) → Dec (countsOf 1 t .m ≤ bounds .lines) → Dec (countsOf 1 t .q ≤ bounds .roleRows)
-        → Dec (Within bounds (countsOf 1 t))
-    go (yes a) (yes b) (yes c) (yes d) (yes e) = yes (record { few-roles = a; few-variables = b; few-atoms = c; few-lines = d; few-role-rows = e })
-    go (no a) b c d e = no (λ w. a (w .few-roles))
-    go (yes a) (no b) c d e = no (λ w. b (w .few-variables))
-    go (yes a) (yes b) (no c) d e = no (λ w. c (w .few-atoms))
-    go (yes a) (yes b) (yes c) (no d) e = no (λ w. d (w .few-lines))
-    go (yes a) (yes b) (yes c) (yes d) (no e) = no (λ w. e (w .few-role-rows))
+    Rows : Type 0
+    Rows = (countsOf 1 t .e ≤ bounds .restrictions) × (countsOf 1 t .c + countsOf 1 t .e ≤ bounds .atoms) × (countsOf 1 t .m ≤ bounds .lines) × (countsOf 1 t .q ≤ bounds .roleRows)
+
+    rows : Dec (countsOf 1 t .e ≤ bounds .restrictions) → Dec (countsOf 1 t .c + countsOf 1 t .e ≤ bounds .atoms) → Dec (countsOf 1 t .m ≤ bounds .lines) → Dec (countsOf 1 t .q ≤ bounds .roleRows) → Dec Rows
+    rows (yes a) (yes b) (yes c) (yes d) = yes (a, b, c, d)
+    rows (no a) b c d = no (λ w. a (w .0))
+    rows (yes a) (no b) c d = no (λ w. b (w .1))
+    rows (yes a) (yes b) (no c) d = no (λ w. c (w .2))
+    rows (yes a) (yes b) (yes c) (no d) = no (λ w. d (w .3))
+
+    names : Dec (countsOf 1 t .c ≤ bounds .constants) → Dec (countsOf 1 t .r ≤ bounds .roles) → Dec (countsOf 1 t .v ≤ bounds .variables) → Dec Rows → Dec (Within bounds (countsOf 1 t))
+    names (yes a) (yes b) (yes c) (yes d) =
+        yes (record { few-constants = a; few-roles = b; few-variables = c; few-restrictions = d .0; few-atoms = d .1; few-lines = d .2; few-role-rows = d .3 })
+    names (no a) b c d = no (λ w. a (w .few-constants))
+    names (yes a) (no b) c d = no (λ w. b (w .few-roles))
+    names (yes a) (yes b) (no c) d = no (λ w. c (w .few-variables))
+    names (yes a) (yes b) (yes c) (no d) = no (λ w. d (w .few-restrictions, w .few-atoms, w .few-lines, w .few-role-rows))
 
 dec-bounds : (t : Table) → Dec (InBounds t)
 dec-bounds t = go (dec-within t) (decide (everyOf (λ (l : Line). leb (length (l .left)) maxLeft) (t .lines)))

@@ -19,7 +19,7 @@ use Rattle.el.specs.TestLaws.{and-make, and-left, and-right, true-is, everyOf-b
 use Rattle.el.specs.Table.{Filler, topF, constantF, variableF, Entry, constant, restriction, variable, Row, Line, Table, fillerDeclared, rowDeclared, entryDeclared, lineDeclared, declared, roleOrder}
 use Rattle.el.specs.RoleLaws.{roleOrder-refl, roleOrder-trans}
 use Rattle.el.specs.TableLaws.{rows-declared, lines-declared}
-use Rattle.bounds.specs.Bounds.{maxAtoms, maxRoles, maxVariables, maxLines, maxRoleRows}
+use Rattle.bounds.specs.Bounds.{maxConstants, maxRestrictions, maxAtoms, maxRoles, maxVariables, maxLines, maxRoleRows}
 use Rattle.table.specs.Reading.{hasRoleRows}
 use Rattle.table.specs.Bytes.{fillerCode, entryCode, writtenRoleCount, writtenHeader, writtenRow, writtenLine, bytesWith, countsOf, bytesOf, longestLine}
 use Rattle.table.specs.LengthLaws.{rows-length as row-bytes, lines-length}
@@ -55,14 +55,14 @@ pub counts-none : (s : List ℕ) (within : Bool) (c r o v e : ℕ) → within �
 unfolding CountsAre
 counts-none s within c r o v e y x = ((λ z. absurd (subst T (sym z ∙ y) tt)), (λ z. x))
 
-pub counted-make : (s : List ℕ) (c r o n e : ℕ) → c ≡ constantsIn s → r ≡ rolesIn s → o ≡ opensIn s → n ≡ freshesIn s → e ≡ rowCount s → c + e ≤ maxAtoms → r ≤ maxRoles → o + n ≤ maxVariables → Counted s c r o (o + n) e
-counted-make s c r o n e a b d g h k l m = record {
+pub counted-make : (s : List ℕ) (c r o n e : ℕ) → c ≡ constantsIn s → r ≡ rolesIn s → o ≡ opensIn s → n ≡ freshesIn s → e ≡ rowCount s → c ≤ maxConstants → e ≤ maxRestrictions → c + e ≤ maxAtoms → r ≤ maxRoles → o + n ≤ maxVariables → Counted s c r o (o + n) e
+counted-make s c r o n e a b d g h i j k l m = record {
   constants = a;
   roles = b;
   opens = d;
   variables = ap₂ (λ (i j : ℕ). i + j) d g;
   rows = h;
-  within = record { few-atoms = omega arith; few-roles = omega arith; few-variables = omega arith };
+  within = record { few-constants = omega arith; few-rows = omega arith; few-atoms = omega arith; few-roles = omega arith; few-variables = omega arith };
 }
 
 -- the counts as bytes
@@ -192,6 +192,8 @@ module _ (s : List ℕ) (f : File) (e : Says s f) (known : T (allKnown f)) where
   in-within : InBounds table → WithinCounts s
   unfolding countsOf
   in-within x = record {
+    few-constants = (let h : table .constants ≤ maxConstants = x .counts .few-constants in let a : table .constants ≡ constantsIn s = is-constants in omega arith);
+    few-rows = (let h : length (table .rows) ≤ maxRestrictions = x .counts .few-restrictions in let b : length (table .rows) ≡ rowCount s = is-count in omega arith);
     few-atoms = (let h : table .constants + length (table .rows) ≤ maxAtoms = x .counts .few-atoms in let a : table .constants ≡ constantsIn s = is-constants in let b : length (table .rows) ≡ rowCount s = is-count in omega arith);
     few-roles = (let h : table .roles ≤ maxRoles = x .counts .few-roles in let a : table .roles ≡ rolesIn s = is-roles in omega arith);
     few-variables = (let h : table .variables ≤ maxVariables = x .counts .few-variables in let a : table .variables ≡ opensIn s + freshesIn s = is-variables in omega arith);
@@ -210,6 +212,8 @@ module _ (s : List ℕ) (f : File) (e : Says s f) (known : T (allKnown f)) where
   unfolding countsOf
   within-in w x = record {
     counts = record {
+      few-constants = (let h : constantsIn s ≤ maxConstants = w .few-constants in let a : table .constants ≡ constantsIn s = is-constants in omega arith);
+      few-restrictions = (let h : rowCount s ≤ maxRestrictions = w .few-rows in let b : length (table .rows) ≡ rowCount s = is-count in omega arith);
       few-roles = (let h : rolesIn s ≤ maxRoles = w .few-roles in let a : table .roles ≡ rolesIn s = is-roles in omega arith);
       few-variables = (let h : opensIn s + freshesIn s ≤ maxVariables = w .few-variables in let a : table .variables ≡ opensIn s + freshesIn s = is-variables in omega arith);
       few-atoms = (let h : constantsIn s + rowCount s ≤ maxAtoms = w .few-atoms in let a : table .constants ≡ constantsIn s = is-constants in let b : length (table .rows) ≡ rowCount s = is-count in omega arith);

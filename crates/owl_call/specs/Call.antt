@@ -16,7 +16,7 @@ use Prim.Native.Nat.{ℕ, _+_, _*_, _≤_}
 use lib.Dec.{T}
 use lib.ListN.{length}
 use Rattle.el.specs.Test.{everyOf}
-use Rattle.bounds.specs.Bounds.{maxAtoms, maxRoles, maxVariables, maxLines}
+use Rattle.bounds.specs.Bounds.{maxConstants, maxRestrictions, maxAtoms, maxRoles, maxVariables, maxLines}
 use Rattle.table.specs.Bytes.{writtenRow, longestLine}
 use Rattle.text.specs.Append.{Appended}
 use Rattle.owl.specs.Once.{once}
@@ -41,8 +41,10 @@ freshesIn s = ownsOf (restrictionsOf (standing s))
 abbrev pub rowCount : List ℕ → ℕ
 rowCount s = length (once sameRestriction [] (restrictionsOf (standing s)))
 
--- "c + e at most 24, r at most 16, v at most 12"
+-- "Constants and restrictions go up to 32 each, 56 together, variables to 24."; "r at most 16"
 pub record WithinCounts (s : List ℕ) : Type 0 where
+  pub few-constants : constantsIn s ≤ maxConstants
+  pub few-rows : rowCount s ≤ maxRestrictions
   pub few-atoms : constantsIn s + rowCount s ≤ maxAtoms
   pub few-roles : rolesIn s ≤ maxRoles
   pub few-variables : opensIn s + freshesIn s ≤ maxVariables

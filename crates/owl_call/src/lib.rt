@@ -37,8 +37,8 @@ fn none() -> Totals
 fn counts(s: &[u8]) -> Totals
     ensures { λ r. ⌜ CountsAre (now (s .entry)) (r .within) (r .constants) (r .roles) (r .opens) (r .variables) (r .rows) ⌝ }
 {
-    let constants = owl_name::up_to(s, 0, bounds::MAX_ATOMS);
-    if bounds::MAX_ATOMS < constants {
+    let constants = owl_name::up_to(s, 0, bounds::MAX_CONSTANTS);
+    if bounds::MAX_CONSTANTS < constants {
         return none();
     }
     let roles = owl_name::up_to(s, 2, bounds::MAX_ROLES);
@@ -54,6 +54,9 @@ fn counts(s: &[u8]) -> Totals
         return none();
     }
     let rows = owl_row::rows(s);
+    if bounds::MAX_RESTRICTIONS < rows {
+        return none();
+    }
     if bounds::MAX_ATOMS - constants < rows {
         return none();
     }

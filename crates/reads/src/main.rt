@@ -3,15 +3,17 @@
 ghost use Prim.Native.Nat.{_≤_, _<_};
 ghost use Rattle.table.specs.Bytes.{enoughLength};
 use bounds::MAX_ATOMS;
+use bounds::MAX_CONSTANTS;
 use bounds::MAX_LEFT;
 use bounds::MAX_LINES;
+use bounds::MAX_RESTRICTIONS;
 use bounds::MAX_ROLE_ROWS;
 use bounds::MAX_ROLES;
 use bounds::MAX_VARIABLES;
 use libc::STDOUT_FILENO;
 
 // Where the lines of the longest table without role rows begin, and where it ends.
-const LINES_AT: usize = table::HEADER + 2 * MAX_ATOMS;
+const LINES_AT: usize = table::HEADER + 2 * MAX_RESTRICTIONS;
 
 const LONGEST: usize = LINES_AT + MAX_LINES * (MAX_LEFT + 2);
 
@@ -198,6 +200,40 @@ fn show_line_of_first(table: [u8; MOST], n: usize, k: u32)
     show_line(&table[0..n], k);
 }
 
+// The first n bytes of the table, with each of the 256 values at the byte `at`.
+fn show_codes_of(plain: [u8; MOST], n: usize, at: usize)
+    requires { ⌜ (n ≤ enoughLength) × (at < enoughLength) ⌝ }
+{
+    let mut table = plain;
+    let mut code: u8 = 0;
+    while code < 255 {
+        table[at] = code;
+        show_first(table, n);
+        code += 1;
+    }
+    table[at] = code;
+    show_first(table, n);
+}
+
+// c constants, as many variables as are allowed, e rows of role 0 and top, and one line of a right entry alone, which ends at the byte `end`:
+// each of the 256 values as that entry.
+fn show_entry_codes(c: u8, e: u8, end: usize)
+    requires { ⌜ (0 < end) × (end ≤ enoughLength) ⌝ }
+{
+    let base = [0u8; MOST];
+    let t = with_header(base, c, 1, MAX_VARIABLES as u8, e, 1);
+    show_codes_of(t, end, end - 1);
+}
+
+// c constants, e rows of role 0 and top, and no line.
+fn show_rows(c: u8, e: u8, end: usize)
+    requires { ⌜ end ≤ enoughLength ⌝ }
+{
+    let base = [0u8; MOST];
+    let t = with_header(base, c, 1, 0, e, 0);
+    show_first(t, end);
+}
+
 fn show_header(c: u8, r: u8, v: u8, e: u8, m: u8) {
     let base = [0u8; MOST];
     let t = with_header(base, c, r, v, e, m);
@@ -224,15 +260,15 @@ fn show_left_count(p: u8, end: usize)
     show_first(t, end);
 }
 
-// As many rows, and lines with as many left entries, as are allowed, and one byte more.
+// As many atoms, rows, and lines with as many left entries, as are allowed, and one byte more.
 fn longest() -> [u8; MOST] {
     let base = [0x40u8; MOST];
     let t = with_header(
         base,
-        0,
+        (MAX_ATOMS - MAX_RESTRICTIONS) as u8,
         MAX_ROLES as u8,
         MAX_VARIABLES as u8,
-        MAX_ATOMS as u8,
+        MAX_RESTRICTIONS as u8,
         MAX_LINES as u8,
     );
     let t = filled(t, table::HEADER, LINES_AT, 1, 0);
@@ -244,10 +280,10 @@ fn longest_ordered() -> [u8; MOST] {
     let base = [0x40u8; MOST];
     let t = with_header(
         base,
-        0,
+        (MAX_ATOMS - MAX_RESTRICTIONS) as u8,
         MAX_ROLES as u8,
         MAX_VARIABLES as u8,
-        MAX_ATOMS as u8,
+        MAX_RESTRICTIONS as u8,
         MAX_LINES as u8,
     );
     let t = filled(t, table::VERSION, table::VERSION + 1, 1, 2);
@@ -272,18 +308,24 @@ fn show_order() {
     say(b"nine bytes with a wrong mark\n");
     show(b"\x00\x00\x00\x00\x00\x00\x00\x00\x00");
     say(b"mark and version wrong\n");
-    show(b"VOK\x03\x00\x19\x11\x0D\x19\x41");
+    show(b"VOK\x03\x00\x21\x11\x19\x21\x41");
     say(b"version 0, 3, 0x0101, 0x0102\n");
-    show(b"VOC\x00\x00\x19\x11\x0D\x19\x41");
-    show(b"VOC\x03\x00\x19\x11\x0D\x19\x41");
-    show(b"VOC\x01\x01\x19\x11\x0D\x19\x41");
-    show(b"VOC\x02\x01\x19\x11\x0D\x19\x41");
-    say(b"c 25 alone; with r 17; with v 13; with m 65; c 255 and e 1\n");
-    show_header(25, 0, 0, 0, 0);
-    show_header(25, 17, 0, 0, 0);
-    show_header(25, 0, 13, 0, 0);
-    show_header(25, 0, 0, 0, 65);
+    show(b"VOC\x00\x00\x21\x11\x19\x21\x41");
+    show(b"VOC\x03\x00\x21\x11\x19\x21\x41");
+    show(b"VOC\x01\x01\x21\x11\x19\x21\x41");
+    show(b"VOC\x02\x01\x21\x11\x19\x21\x41");
+    say(b"c 33 alone; with r 17; with v 25; with e 33; with m 65; c 255 and e 1\n");
+    show_header(33, 0, 0, 0, 0);
+    show_header(33, 17, 0, 0, 0);
+    show_header(33, 0, 25, 0, 0);
+    show_header(33, 0, 0, 33, 0);
+    show_header(33, 0, 0, 0, 65);
     show_header(255, 0, 0, 1, 0);
+    say(b"r 17 with v 25; v 25 with e 33; e 33 with m 65; c 32 and e 25 with m 65\n");
+    show_header(0, 17, 25, 0, 0);
+    show_header(0, 0, 25, 33, 0);
+    show_header(0, 0, 0, 33, 65);
+    show_header(32, 0, 0, 25, 65);
     say(b"a role not declared, and no filler; a role, and no filler\n");
     show(b"VOC\x01\x00\x00\x00\x00\x01\x00\x00");
     show(b"VOC\x01\x00\x00\x01\x00\x01\x00\x00");
@@ -306,15 +348,22 @@ fn show_order() {
 fn show_bounds() {
     say(b"no counts\n");
     show_header(0, 0, 0, 0, 0);
-    say(b"c 24 with e 0, with e 1\n");
-    show_header(24, 0, 0, 0, 0);
-    show_header(24, 0, 0, 1, 0);
+    say(b"c 32, c 33\n");
+    show_header(32, 0, 0, 0, 0);
+    show_header(33, 0, 0, 0, 0);
+    say(b"c 32 with e 24, with e 25\n");
+    show_rows(32, 24, 58);
+    show_rows(32, 25, 60);
+    say(b"e 32 with c 24, with c 25; e 33\n");
+    show_rows(24, 32, 74);
+    show_rows(25, 32, 74);
+    show_rows(0, 33, 76);
     say(b"r 16, r 17\n");
     show_header(0, 16, 0, 0, 0);
     show_header(0, 17, 0, 0, 0);
-    say(b"v 12, v 13\n");
-    show_header(0, 0, 12, 0, 0);
-    show_header(0, 0, 13, 0, 0);
+    say(b"v 24, v 25\n");
+    show_header(0, 0, 24, 0, 0);
+    show_header(0, 0, 25, 0, 0);
     say(b"m 64, m 65\n");
     show_many_lines(64, 138);
     show_many_lines(65, 140);
@@ -383,6 +432,9 @@ fn main() {
     show_codes(plain, PLAIN_END, 15);
     say(b"each right code\n");
     show_codes(plain, PLAIN_END, 17);
+    say(b"each right code with c 32, e 24 and v 24; with c 24, e 32 and v 24\n");
+    show_entry_codes(MAX_CONSTANTS as u8, 24, 60);
+    show_entry_codes(24, MAX_RESTRICTIONS as u8, 76);
     show_order();
     show_bounds();
     show_lines();

@@ -24,7 +24,7 @@ use lib.ListN.{length, replicate}
 use Rattle.el.specs.Test.{everyOf}
 use Rattle.el.specs.Roles.{RoleRow}
 use Rattle.el.specs.Table.{Filler, topF, constantF, variableF, Entry, constant, restriction, variable, Row, Line, Table, roleRowDeclared, rowDeclared, lineDeclared}
-use Rattle.bounds.specs.Bounds.{Bounds, bounds, maxAtoms, maxLines, maxLeft, maxRoleRows}
+use Rattle.bounds.specs.Bounds.{Bounds, bounds, maxRestrictions, maxLines, maxLeft, maxRoleRows}
 use Rattle.table.specs.declared.Header.{Header}
 use Rattle.table.specs.Reading.{headerLength, hasRoleRows, tableWith}
 
@@ -78,10 +78,13 @@ pub data IsVersion (h : Header) : Type 0 where
   version-one : h .version ≡ 1 → h .q ≡ 0 → IsVersion h
   version-two : h .version ≡ 2 → IsVersion h
 
--- "Bounds: c + e at most 24, r at most 16, v at most 12, m at most 64"; "the count q of role rows, at most 32"
+-- "Constants and restrictions go up to 32 each, 56 together, variables to 24."; "r at most 16", "m at most 64"; "the count q of role rows, at
+-- most 32"
 pub record Within (b : Bounds) (h : Header) : Type 0 where
+  pub few-constants : h .c ≤ b .constants
   pub few-roles : h .r ≤ b .roles
   pub few-variables : h .v ≤ b .variables
+  pub few-restrictions : h .e ≤ b .restrictions
   pub few-atoms : h .c + h .e ≤ b .atoms
   pub few-lines : h .m ≤ b .lines
   pub few-role-rows : h .q ≤ b .roleRows
@@ -107,16 +110,16 @@ IsTable s t = (n : ℕ) × (s ≡ bytesOf n t) × Fits n t
 abbrev pub longestLine : ℕ
 longestLine = maxLeft + 2
 
--- "The longest readable table has 698 bytes."; with the count of role rows and as many role rows as are allowed it has 763
+-- "The longest tables are 714 bytes in version 1 and 779 in version 2"
 unfoldable pub longestFront : ℕ → ℕ
 longestFront n = cond (hasRoleRows n) (headerLength + 1 + 2 * maxRoleRows) headerLength
 
 abbrev pub longestLength : ℕ → ℕ
-longestLength n = longestFront n + 2 * maxAtoms + longestLine * maxLines
+longestLength n = longestFront n + 2 * maxRestrictions + longestLine * maxLines
 
--- one byte more is enough to refuse; "the listing program reads up to 764 bytes"
+-- "and the listing program reads one byte more", which is enough to refuse
 abbrev pub enoughLength : ℕ
-enoughLength = headerLength + 1 + 2 * maxRoleRows + 2 * maxAtoms + longestLine * maxLines + 1
+enoughLength = headerLength + 1 + 2 * maxRoleRows + 2 * maxRestrictions + longestLine * maxLines + 1
 
 -- as many role rows, rows, lines and left entries as are allowed
 unfoldable pub longestTable : ℕ → Table
@@ -126,6 +129,6 @@ longestTable n =
       roles = 1;
       variables = 0;
       roleRows = cond (hasRoleRows n) (replicate maxRoleRows (record { narrower = 0; wider = 0 })) [];
-      rows = replicate maxAtoms (record { role = 0; filler = topF });
+      rows = replicate maxRestrictions (record { role = 0; filler = topF });
       lines = replicate maxLines (record { left = replicate maxLeft (restriction 0); right = restriction 0 });
     }

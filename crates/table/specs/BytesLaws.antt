@@ -120,7 +120,7 @@ module _ (s : List ℕ) (h : Header) (roleRows : List RoleRow) (rows : List Row)
 
   pub rows-next : Many (readRow s h) rows (afterRoleRows h roleRows) (afterRows h roleRows rows)
   rows-next =
-      many-read s (readRow s h) writtenRow (rowDeclared (tableWith h roleRows rows lines)) (row-is s h roleRows rows lines (let w = right .counts .few-atoms in omega arith)) rows (afterRoleRows h roleRows)
+      many-read s (readRow s h) writtenRow (rowDeclared (tableWith h roleRows rows lines)) (row-is s h roleRows rows lines (let w = right .counts .few-constants in omega arith)) rows (afterRoleRows h roleRows)
       (flatMap writtenLine lines ++ tail) (right .rows-right) behind-role-rows
 
   pub lines-end : afterRows h roleRows rows + length (flatMap writtenLine lines) ≡ length (bytesWith h roleRows rows lines)
@@ -134,7 +134,8 @@ module _ (s : List ℕ) (h : Header) (roleRows : List RoleRow) (rows : List Row)
 
   pub lines-next : length rows ≡ h .e → Many (readLine bounds s h) lines (afterRows h roleRows rows) (length (bytesWith h roleRows rows lines))
   lines-next all =
-      let w = right .counts .few-atoms in
+      let w = right .counts .few-constants in
+      let x = right .counts .few-restrictions in
       subst (Many (readLine bounds s h) lines (afterRows h roleRows rows)) lines-end
       (many-read s (readLine bounds s h) writtenLine (lineRight (tableWith h roleRows rows lines)) (line-is s h roleRows rows lines all (omega arith) (omega arith)) lines (afterRows h roleRows rows) tail (right .lines-right)
       (drop-behind s (afterRoleRows h roleRows) (flatMap writtenRow rows) (flatMap writtenLine lines ++ tail) behind-role-rows))

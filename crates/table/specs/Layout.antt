@@ -17,7 +17,7 @@ use lib.ListN.{length, getD}
 use Rattle.el.specs.Roles.{RoleRow}
 use Rattle.el.specs.Table.{Entry, constant, Line, Table, rowAt, declared}
 use Rattle.table.specs.Code.{fillerOf, entryOf}
-use Rattle.bounds.specs.Bounds.{maxAtoms, maxRoles, maxVariables, maxLines, maxLeft, maxRoleRows}
+use Rattle.bounds.specs.Bounds.{maxConstants, maxRestrictions, maxAtoms, maxRoles, maxVariables, maxLines, maxLeft, maxRoleRows}
 use Rattle.table.specs.Bytes.{bytesWith}
 use Rattle.table.specs.Reading.{byteAt, headerLength, headerOf, roleRowStart, widerPlace, rowStart, fillerPlace, tableOf}
 
@@ -52,8 +52,10 @@ pub record Layout (s : List ℕ) (t : Table) : Type 0 where
   pub role-rows : length (t .roleRows) ≡ headerOf s .q
   pub rows : length (t .rows) ≡ headerOf s .e
   pub lines : length (t .lines) ≡ headerOf s .m
+  pub few-constants : headerOf s .c ≤ maxConstants
   pub few-roles : headerOf s .r ≤ maxRoles
   pub few-variables : headerOf s .v ≤ maxVariables
+  pub few-restrictions : headerOf s .e ≤ maxRestrictions
   pub few-atoms : headerOf s .c + headerOf s .e ≤ maxAtoms
   pub few-lines : headerOf s .m ≤ maxLines
   pub few-role-rows : headerOf s .q ≤ maxRoleRows

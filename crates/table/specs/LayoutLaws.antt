@@ -130,8 +130,10 @@ module _ (s : List ℕ) (t : Table) (header : HeaderRead bounds s (headerOf s)) 
         role-rows = body .all-role-rows;
         rows = body .all-rows;
         lines = body .all-lines;
+        few-constants = header .counts .few-constants;
         few-roles = header .counts .few-roles;
         few-variables = header .counts .few-variables;
+        few-restrictions = header .counts .few-restrictions;
         few-atoms = header .counts .few-atoms;
         few-lines = header .counts .few-lines;
         few-role-rows = header .counts .few-role-rows;

@@ -2,10 +2,10 @@
 --
 --   role-rows-length, rows-length, lines-length == the bytes of role rows, of rows, and of lines that are short enough
 --   begun-length   == bytes that are right so far are no longer than the longest table
---   longest        == "The longest readable table has 698 bytes.", and 763 in version 2
+--   longest        == "The longest tables are 714 bytes in version 1 and 779 in version 2"
 --   place-fits     == so where a line begins is no larger
 --   longest-reached == in each version one has them; longest-lengths, in numerals
---   first-bytes    == THE FIRST 764 BYTES OF AN INPUT ARE READ AS THE WHOLE INPUT IS
+--   first-bytes    == THE FIRST 780 BYTES OF AN INPUT ARE READ AS THE WHOLE INPUT IS
 use mathlib.Core.Path.{_≡_, refl, sym, ap, subst, _∙_}
 use mathlib.Core.Bool.{Bool, true, false, cond}
 use mathlib.Core.Logic.{_⊎_, inl, inr}
@@ -20,7 +20,7 @@ use Rattle.el.specs.Test.{everyOf}
 use Rattle.el.specs.TestLaws.{and-left, and-right, everyOf-both}
 use Rattle.el.specs.Roles.{RoleRow}
 use Rattle.el.specs.Table.{Entry, Row, Line, Table, lineDeclared}
-use Rattle.bounds.specs.Bounds.{bounds, maxAtoms, maxLines, maxLeft, maxRoleRows}
+use Rattle.bounds.specs.Bounds.{bounds, maxRestrictions, maxLines, maxLeft, maxRoleRows}
 use Rattle.answer.specs.declared.Answer.{Answer}
 use Rattle.table.specs.declared.Header.{Header}
 use Rattle.table.specs.Reading.{byteAt, versionPlace, constantsPlace, rolesPlace, variablesPlace, restrictionsPlace, linesPlace, headerLength, roleRowsPlace, hasRoleRows, headerEnd, roleCount, headerOf, marked, versionKnown, tableWith, Reading, refusal, readable, reading, isReadable}
@@ -98,7 +98,7 @@ front-enough : (n : ℕ) → longestLength n < enoughLength
 unfolding longestFront
 front-enough n = go (hasRoleRows n)
   where
-    go : (b : Bool) → cond b (headerLength + 1 + 2 * maxRoleRows) headerLength + 2 * maxAtoms + longestLine * maxLines < enoughLength
+    go : (b : Bool) → cond b (headerLength + 1 + 2 * maxRoleRows) headerLength + 2 * maxRestrictions + longestLine * maxLines < enoughLength
     go true = omega arith
     go false = omega arith
 
@@ -108,7 +108,7 @@ within-length : (h : Header) (roleRows : List RoleRow) (rows : List Row) (lines 
 within-length h roleRows rows lines good right i j k o r l is =
     let w = with-length h roleRows rows lines right in
     let f = front-length h (right .version) (right .counts .few-role-rows) in
-    let e : h .c + h .e ≤ maxAtoms = right .counts .few-atoms in
+    let e : h .e ≤ maxRestrictions = right .counts .few-restrictions in
     let m : h .m ≤ maxLines = right .counts .few-lines in
     let g : length good ≡ length (bytesWith h roleRows rows lines) = ap length is in
     omega arith
@@ -142,7 +142,7 @@ table-length : (n : ℕ) (t : Table) → Fits n t → length (bytesOf n t) ≤ l
 unfolding Fits bytesOf countsOf
 table-length n t fits = let w = within-length (countsOf n t) (t .roleRows) (t .rows) (t .lines) (bytesOf n t) fits 0 0 0 (omega arith) (omega arith) (omega arith) refl in omega arith
 
--- "The longest readable table has 698 bytes.": in each version it is as long as that version's longest at most
+-- a readable table of each version is at most as long as that version's longest
 pub longest : (s : List ℕ) → T (isReadable (reading s)) → length s ≤ longestLength (headerOf s .version)
 longest s ok = go (reading s) refl ok
   where
@@ -164,14 +164,14 @@ longest-reached n of = go of
     Reached : ℕ → Type 0
     Reached k = Fits k (longestTable k) × (length (bytesOf k (longestTable k)) ≡ longestLength k)
 
-    within : (k : ℕ) → (q : ℕ) → q ≤ maxRoleRows → Within bounds (record { version = k; c = 0; r = 1; v = 0; e = maxAtoms; m = maxLines; q = q })
-    within k q w = record { few-roles = omega arith; few-variables = omega arith; few-atoms = omega arith; few-lines = omega arith; few-role-rows = w }
+    within : (k : ℕ) → (q : ℕ) → q ≤ maxRoleRows → Within bounds (record { version = k; c = 0; r = 1; v = 0; e = maxRestrictions; m = maxLines; q = q })
+    within k q w = record { few-constants = omega arith; few-roles = omega arith; few-variables = omega arith; few-restrictions = omega arith; few-atoms = omega arith; few-lines = omega arith; few-role-rows = w }
 
     go : (n ≡ 1) ⊎ (n ≡ 2) → Reached n
     go (inl e) = subst Reached (sym e) (record { version = version-one refl refl; counts = within 1 0 (omega arith); role-rows-right = tt; rows-right = tt; lines-right = tt }, refl)
     go (inr e) = subst Reached (sym e) (record { version = version-two refl; counts = within 2 maxRoleRows (omega arith); role-rows-right = tt; rows-right = tt; lines-right = tt }, refl)
 
-pub longest-lengths : (longestLength 1 ≡ 698) × (longestLength 2 ≡ 763)
+pub longest-lengths : (longestLength 1 ≡ 714) × (longestLength 2 ≡ 779)
 unfolding longestFront hasRoleRows
 longest-lengths = (refl, refl)
 
@@ -227,7 +227,7 @@ module _ (s : List ℕ) (long : enoughLength ≤ length s) where
   kept-refusal (not-allowed h x good b tail g q r) = not-allowed h x good b (take (enoughLength - suc (length good)) tail) g (kept-front good b tail q (begun-length h good x g)) r
   kept-refusal (bytes-after h good b tail g q) = bytes-after h good b (take (enoughLength - suc (length good)) tail) g (kept-front good b tail q (begun-length h good nothing g))
 
--- THE FIRST 764 BYTES OF AN INPUT ARE READ AS THE WHOLE INPUT IS
+-- THE FIRST 780 BYTES OF AN INPUT ARE READ AS THE WHOLE INPUT IS
 pub first-bytes : (s : List ℕ) → reading (take enoughLength s) ≡ reading s
 first-bytes s = go (decLe (length s) enoughLength)
   where

@@ -23,7 +23,7 @@ use Rattle.answer.specs.declared.Answer.the-variants.{EndsEarly, WrongMark, Wro
 use Rattle.bounds.specs.Bounds.{Bounds}
 use Rattle.table.specs.declared.Header.{Header}
 use Rattle.table.specs.Code.{roleOf, fillerOf}
-use Rattle.table.specs.Reading.{Read, refused, got, andThen, orRefused, readPair, byteAt, missing, readCode, rolesPlace, variablesPlace, restrictionsPlace, linesPlace, headerLength, roleRowsPlace, hasRoleRows, headerEnd, headerOf, marked, versionKnown, readCounts, thenThere, readHeader, roleRowOf, rowOf, readEntry, readRoleRow, readRoleRows, readRow, readRows, readEntries, thenRight, tableWith, readLine, readLines, thenEnd, thenLines, thenRows, readBody, readable, whole, fromHeader, readingWithin}
+use Rattle.table.specs.Reading.{Read, refused, got, andThen, orRefused, readPair, byteAt, missing, readCode, constantsPlace, rolesPlace, variablesPlace, restrictionsPlace, linesPlace, headerLength, roleRowsPlace, hasRoleRows, headerEnd, headerOf, marked, versionKnown, readCounts, thenThere, readHeader, roleRowOf, rowOf, readEntry, readRoleRow, readRoleRows, readRow, readRows, readEntries, thenRight, tableWith, readLine, readLines, thenEnd, thenLines, thenRows, readBody, readable, whole, fromHeader, readingWithin}
 use Rattle.table.specs.Bytes.{Within}
 use Rattle.table.specs.Standing.{PairRead, RoleRowRead, RowRead, LineRead, HeaderRead, BodyRead}
 use Rattle.table.specs.ManyLaws.{got-same, if-passed, if-refused, refuse-got, then-got, or-got, many-got, many-whole}
@@ -144,23 +144,28 @@ module _ (b : Bounds) (s : List ℕ) (h : Header) where
 pub counts-within : (b : Bounds) (h : Header) → Within b h → readCounts b h ≡ got h (headerEnd h)
 unfolding readCounts
 counts-within b h w =
-    if-passed _ _ _ (le-ltb (b .roles) (h .r) (w .few-roles)) ∙ if-passed _ _ _ (le-ltb (b .variables) (h .v) (w .few-variables))
+    if-passed _ _ _ (le-ltb (b .constants) (h .c) (w .few-constants)) ∙ if-passed _ _ _ (le-ltb (b .roles) (h .r) (w .few-roles))
+    ∙ if-passed _ _ _ (le-ltb (b .variables) (h .v) (w .few-variables)) ∙ if-passed _ _ _ (le-ltb (b .restrictions) (h .e) (w .few-restrictions))
     ∙ if-passed _ _ _ (le-ltb (b .atoms) (h .c + h .e) (w .few-atoms)) ∙ if-passed _ _ _ (le-ltb (b .lines) (h .m) (w .few-lines))
     ∙ if-passed _ _ _ (le-ltb (b .roleRows) (h .q) (w .few-role-rows))
 
 pub counts-read : (b : Bounds) (h k : Header) (end : ℕ) → readCounts b h ≡ got k end → Within b h × (h ≡ k) × (headerEnd h ≡ end)
 unfolding readCounts
 counts-read b h k end q =
-    let r = refuse-got (ltb (b .roles) (h .r)) (OverBound rolesPlace) _ k end q in
+    let c = refuse-got (ltb (b .constants) (h .c)) (OverBound constantsPlace) _ k end q in
+    let r = refuse-got (ltb (b .roles) (h .r)) (OverBound rolesPlace) _ k end (c .1) in
     let v = refuse-got (ltb (b .variables) (h .v)) (OverBound variablesPlace) _ k end (r .1) in
-    let e = refuse-got (ltb (b .atoms) (h .c + h .e)) (OverBound restrictionsPlace) _ k end (v .1) in
-    let m = refuse-got (ltb (b .lines) (h .m)) (OverBound linesPlace) _ k end (e .1) in
+    let e = refuse-got (ltb (b .restrictions) (h .e)) (OverBound restrictionsPlace) _ k end (v .1) in
+    let a = refuse-got (ltb (b .atoms) (h .c + h .e)) (OverBound restrictionsPlace) _ k end (e .1) in
+    let m = refuse-got (ltb (b .lines) (h .m)) (OverBound linesPlace) _ k end (a .1) in
     let o = refuse-got (ltb (b .roleRows) (h .q)) (OverBound roleRowsPlace) _ k end (m .1) in
     let g = got-same h k (headerEnd h) end (o .1) in (
       record {
+        few-constants = ltb-false (b .constants) (h .c) (c .0);
         few-roles = ltb-false (b .roles) (h .r) (r .0);
         few-variables = ltb-false (b .variables) (h .v) (v .0);
-        few-atoms = ltb-false (b .atoms) (h .c + h .e) (e .0);
+        few-restrictions = ltb-false (b .restrictions) (h .e) (e .0);
+        few-atoms = ltb-false (b .atoms) (h .c + h .e) (a .0);
         few-lines = ltb-false (b .lines) (h .m) (m .0);
         few-role-rows = ltb-false (b .roleRows) (h .q) (o .0);
       },

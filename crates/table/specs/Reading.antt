@@ -159,15 +159,18 @@ marked s = eqb (byteAt s 0) 0x56 && (eqb (byteAt s 1) 0x4F && eqb (byteAt s 2) 0
 unfoldable pub versionKnown : List ℕ → Bool
 versionKnown s = (eqb (byteAt s versionPlace) 1 || eqb (byteAt s versionPlace) 2) && eqb (byteAt s 4) 0
 
--- "counts in byte order (c + e is judged at byte 8)"; "a q over 32 is 4", "judged in byte order"
+-- "counts in byte order (c + e is judged at byte 8)"; "a c or e over 32 is 4 at its own byte, before the sum"; "a q over 32 is 4", "judged
+-- in byte order"
 unfoldable pub readCounts : Bounds → Header → Read Header
 readCounts b h =
-    refuseIf (ltb (b .roles) (h .r)) (OverBound rolesPlace)
+    refuseIf (ltb (b .constants) (h .c)) (OverBound constantsPlace)
+    (refuseIf (ltb (b .roles) (h .r)) (OverBound rolesPlace)
     (refuseIf (ltb (b .variables) (h .v)) (OverBound variablesPlace)
+    (refuseIf (ltb (b .restrictions) (h .e)) (OverBound restrictionsPlace)
     (refuseIf (ltb (b .atoms) (h .c + h .e)) (OverBound restrictionsPlace)
     (refuseIf (ltb (b .lines) (h .m)) (OverBound linesPlace)
     (refuseIf (ltb (b .roleRows) (h .q)) (OverBound roleRowsPlace)
-    (got h (headerEnd h))))))
+    (got h (headerEnd h))))))))
 
 -- "a missing byte gives 1": where that of q is missing, q is 0 and within its bound
 abbrev pub thenThere : List ℕ → Header → ℕ → Read Header
@@ -271,6 +274,8 @@ reading = readingWithin bounds
 
 -- bounds that are nowhere smaller
 pub record Wider (b w : Bounds) : Type 0 where
+  pub constants : b .constants ≤ w .constants
+  pub restrictions : b .restrictions ≤ w .restrictions
   pub atoms : b .atoms ≤ w .atoms
   pub roles : b .roles ≤ w .roles
   pub variables : b .variables ≤ w .variables

@@ -18,9 +18,9 @@ use Rattle.el.specs.Table.{Entry, Row, Line, entryDeclared}
 use Rattle.answer.specs.declared.Answer.{Answer}
 use Rattle.answer.specs.declared.Answer.the-variants.{EndsEarly, WrongMark, WrongVersion, OverBound, NotAllowed, BytesAfter}
 use Rattle.table.specs.Code.{fillerOf, entryOf}
-use Rattle.bounds.specs.Bounds.{bounds, maxAtoms, maxRoles, maxVariables, maxLines, maxLeft, maxRoleRows}
+use Rattle.bounds.specs.Bounds.{bounds, maxConstants, maxRestrictions, maxAtoms, maxRoles, maxVariables, maxLines, maxLeft, maxRoleRows}
 use Rattle.table.specs.declared.Header.{Header}
-use Rattle.table.specs.Reading.{rolesPlace, variablesPlace, restrictionsPlace, linesPlace, headerLength, roleRowsPlace, headerEnd, headerOf, marked, versionKnown, tableWith}
+use Rattle.table.specs.Reading.{constantsPlace, rolesPlace, variablesPlace, restrictionsPlace, linesPlace, headerLength, roleRowsPlace, headerEnd, headerOf, marked, versionKnown, tableWith}
 use Rattle.table.specs.Bytes.{writtenEntry, bytesWith, Within, Right}
 
 -- "rows of two roles (narrower, then wider)"; "restriction rows of two bytes: a role, less than r, and a filler code"; "lines, each a left
@@ -71,13 +71,16 @@ Refuses h aCount b = ⊥
 Refuses h anEntry b = entryOf (h .c) (h .e) (h .v) b ≡ none
 Refuses h nothing b = ⊥
 
--- "counts in byte order (c + e is judged at byte 8)"; "a q over 32 is 4"
+-- "counts in byte order (c + e is judged at byte 8)"; "a c or e over 32 is 4 at its own byte, before the sum"; "a q over 32 is 4"
 pub data Over (h : Header) : ℕ → Type 0 where
-  over-roles : maxRoles < h .r → Over h rolesPlace
-  over-variables : h .r ≤ maxRoles → maxVariables < h .v → Over h variablesPlace
-  over-atoms : h .r ≤ maxRoles → h .v ≤ maxVariables → maxAtoms < h .c + h .e → Over h restrictionsPlace
-  over-lines : h .r ≤ maxRoles → h .v ≤ maxVariables → h .c + h .e ≤ maxAtoms → maxLines < h .m → Over h linesPlace
-  over-role-rows : h .r ≤ maxRoles → h .v ≤ maxVariables → h .c + h .e ≤ maxAtoms → h .m ≤ maxLines → maxRoleRows < h .q → Over h roleRowsPlace
+  over-constants : maxConstants < h .c → Over h constantsPlace
+  over-roles : h .c ≤ maxConstants → maxRoles < h .r → Over h rolesPlace
+  over-variables : h .c ≤ maxConstants → h .r ≤ maxRoles → maxVariables < h .v → Over h variablesPlace
+  over-restrictions : h .c ≤ maxConstants → h .r ≤ maxRoles → h .v ≤ maxVariables → maxRestrictions < h .e → Over h restrictionsPlace
+  over-atoms : h .c ≤ maxConstants → h .r ≤ maxRoles → h .v ≤ maxVariables → h .e ≤ maxRestrictions → maxAtoms < h .c + h .e → Over h restrictionsPlace
+  over-lines : h .c ≤ maxConstants → h .r ≤ maxRoles → h .v ≤ maxVariables → h .e ≤ maxRestrictions → h .c + h .e ≤ maxAtoms → maxLines < h .m → Over h linesPlace
+  over-role-rows : h .c ≤ maxConstants → h .r ≤ maxRoles → h .v ≤ maxVariables → h .e ≤ maxRestrictions → h .c + h .e ≤ maxAtoms → h .m ≤ maxLines → maxRoleRows < h .q
+      → Over h roleRowsPlace
 
 pub data RefusedAt (s : List ℕ) : Answer → Type 0 where
   -- "input ends early", "input length": "fewer than 10 bytes gives 1 before anything else"

@@ -24,18 +24,18 @@ use Rattle.el.specs.Table.{Entry, Row, Line, Table, entryDeclared}
 use Rattle.answer.specs.declared.Answer.{Answer}
 use Rattle.answer.specs.declared.Answer.the-variants.{EndsEarly, WrongMark, WrongVersion, OverBound, NotAllowed, BytesAfter}
 use Rattle.answer.specs.Handed.{handed}
-use Rattle.bounds.specs.Bounds.{bounds, maxAtoms, maxRoles, maxVariables, maxLines, maxLeft, maxRoleRows}
+use Rattle.bounds.specs.Bounds.{bounds, maxConstants, maxRestrictions, maxAtoms, maxRoles, maxVariables, maxLines, maxLeft, maxRoleRows}
 use Rattle.table.specs.declared.Header.{Header}
 use Rattle.table.specs.Code.{roleOf, fillerOf, entryOf}
 use Rattle.table.specs.CodeLaws.{role-code, role-none, role-is}
-use Rattle.table.specs.Reading.{Read, refused, got, andThen, readPair, byteAt, missing, readCode, rolesPlace, variablesPlace, restrictionsPlace, linesPlace, headerLength, roleRowsPlace, headerEnd, headerOf, marked, versionKnown, readCounts, thenThere, readHeader, roleRowOf, rowOf, readRole, readEntry, readRoleRow, readRoleRows, readRow, readRows, readEntries, thenRight, tableWith, readLine, readLines, thenEnd, thenLines, thenRows, readBody, refusal, whole, fromHeader, reading}
+use Rattle.table.specs.Reading.{Read, refused, got, andThen, readPair, byteAt, missing, readCode, constantsPlace, rolesPlace, variablesPlace, restrictionsPlace, linesPlace, headerLength, roleRowsPlace, headerEnd, headerOf, marked, versionKnown, readCounts, thenThere, readHeader, roleRowOf, rowOf, readRole, readEntry, readRoleRow, readRoleRows, readRow, readRows, readEntries, thenRight, tableWith, readLine, readLines, thenEnd, thenLines, thenRows, readBody, refusal, whole, fromHeader, reading}
 use Rattle.table.specs.Bytes.{writtenEntry, bytesWith, Right}
 use Rattle.table.specs.Standing.{Means, Many, First, afterRoleRows, afterRows, HeaderRead}
 use Rattle.table.specs.ManyLaws.{if-passed, if-refused, means-got, means-if, means-or, means-then, means-many, many-got, many-whole, many-stopped, stands-then, many-written, many-read}
 use Rattle.table.specs.ReadLaws.{code-short, code-answer, code-read, pair-stop, pair-next, line-short, line-over, line-opened, counts-within, counts-read, header-short, header-mark, header-version, header-counts, header-all, header-read}
 use Rattle.table.specs.StandsLaws.{here-byte, byte-here, entry-stands, entry-reads}
 use Rattle.table.specs.BytesLaws.{first-then, first-all, first-byte, behind, role-rows-there, rows-there, lines-there, header-there, role-rows-first, rows-next, lines-end, lines-next}
-use Rattle.table.specs.Refusal.{Slot, aNarrower, aWider, aRole, aFiller, aCount, anEntry, nothing, Awaited, Begins, Refuses, Over, over-roles, over-variables, over-atoms, over-lines, over-role-rows, RefusedAt, header-cut, wrong-mark, wrong-version, over-bound, no-role-count, over-left, ends-early, not-allowed, bytes-after}
+use Rattle.table.specs.Refusal.{Slot, aNarrower, aWider, aRole, aFiller, aCount, anEntry, nothing, Awaited, Begins, Refuses, Over, over-constants, over-roles, over-variables, over-restrictions, over-atoms, over-lines, over-role-rows, RefusedAt, header-cut, wrong-mark, wrong-version, over-bound, no-role-count, over-left, ends-early, not-allowed, bytes-after}
 
 pub refused-number : {s : List ℕ} {why : Answer} → RefusedAt s why → (1 ≤ handed why .number) × (handed why .number ≤ 6)
 refused-number (header-cut w) = (omega arith, omega arith)
@@ -65,16 +65,20 @@ module _ (s : List ℕ) where
     where
       counts-mean : headerLength ≤ length s → T (marked s) → T (versionKnown s) → Means (RefusedAt s) (readCounts bounds (headerOf s))
       counts-mean long mark version =
-          means-if _ (ltb maxRoles (headerOf s .r)) (OverBound rolesPlace) _ (λ i. over-bound long mark version (over-roles (ltb-true maxRoles (headerOf s .r) i)))
+          means-if _ (ltb maxConstants (headerOf s .c)) (OverBound constantsPlace) _ (λ a. over-bound long mark version (over-constants (ltb-true maxConstants (headerOf s .c) a)))
+          (λ a. let constants : headerOf s .c ≤ maxConstants = ltb-false maxConstants (headerOf s .c) a in
+          means-if _ (ltb maxRoles (headerOf s .r)) (OverBound rolesPlace) _ (λ i. over-bound long mark version (over-roles constants (ltb-true maxRoles (headerOf s .r) i)))
           (λ i. let roles : headerOf s .r ≤ maxRoles = ltb-false maxRoles (headerOf s .r) i in
-          means-if _ (ltb maxVariables (headerOf s .v)) (OverBound variablesPlace) _ (λ j. over-bound long mark version (over-variables roles (ltb-true maxVariables (headerOf s .v) j)))
+          means-if _ (ltb maxVariables (headerOf s .v)) (OverBound variablesPlace) _ (λ j. over-bound long mark version (over-variables constants roles (ltb-true maxVariables (headerOf s .v) j)))
           (λ j. let variables : headerOf s .v ≤ maxVariables = ltb-false maxVariables (headerOf s .v) j in
-          means-if _ (ltb maxAtoms (headerOf s .c + headerOf s .e)) (OverBound restrictionsPlace) _ (λ k. over-bound long mark version (over-atoms roles variables (ltb-true maxAtoms (headerOf s .c + headerOf s .e) k)))
+          means-if _ (ltb maxRestrictions (headerOf s .e)) (OverBound restrictionsPlace) _ (λ b. over-bound long mark version (over-restrictions constants roles variables (ltb-true maxRestrictions (headerOf s .e) b)))
+          (λ b. let restrictions : headerOf s .e ≤ maxRestrictions = ltb-false maxRestrictions (headerOf s .e) b in
+          means-if _ (ltb maxAtoms (headerOf s .c + headerOf s .e)) (OverBound restrictionsPlace) _ (λ k. over-bound long mark version (over-atoms constants roles variables restrictions (ltb-true maxAtoms (headerOf s .c + headerOf s .e) k)))
           (λ k. let atoms : headerOf s .c + headerOf s .e ≤ maxAtoms = ltb-false maxAtoms (headerOf s .c + headerOf s .e) k in
-          means-if _ (ltb maxLines (headerOf s .m)) (OverBound linesPlace) _ (λ l. over-bound long mark version (over-lines roles variables atoms (ltb-true maxLines (headerOf s .m) l)))
+          means-if _ (ltb maxLines (headerOf s .m)) (OverBound linesPlace) _ (λ l. over-bound long mark version (over-lines constants roles variables restrictions atoms (ltb-true maxLines (headerOf s .m) l)))
           (λ l. let lines : headerOf s .m ≤ maxLines = ltb-false maxLines (headerOf s .m) l in
-          means-if _ (ltb maxRoleRows (headerOf s .q)) (OverBound roleRowsPlace) _ (λ n. over-bound long mark version (over-role-rows roles variables atoms lines (ltb-true maxRoleRows (headerOf s .q) n)))
-          (λ n. means-got _ (headerOf s) (headerEnd (headerOf s)))))))
+          means-if _ (ltb maxRoleRows (headerOf s .q)) (OverBound roleRowsPlace) _ (λ n. over-bound long mark version (over-role-rows constants roles variables restrictions atoms lines (ltb-true maxRoleRows (headerOf s .q) n)))
+          (λ n. means-got _ (headerOf s) (headerEnd (headerOf s)))))))))
 
       counts-cut : headerLength ≤ length s → T (marked s) → T (versionKnown s) → (h : Header) (end : ℕ) → readCounts bounds (headerOf s) ≡ got h end → length s < end → RefusedAt s (EndsEarly (length s))
       counts-cut long mark version h end q w =
@@ -182,14 +186,20 @@ module _ (s : List ℕ) where
 
 pub counts-over : (h : Header) {at : ℕ} → Over h at → readCounts bounds h ≡ refused (OverBound at)
 unfolding readCounts
-counts-over h (over-roles w) = if-refused _ _ _ (lt-ltb maxRoles (h .r) w)
-counts-over h (over-variables r w) = if-passed _ _ _ (le-ltb maxRoles (h .r) r) ∙ if-refused _ _ _ (lt-ltb maxVariables (h .v) w)
-counts-over h (over-atoms r u w) = if-passed _ _ _ (le-ltb maxRoles (h .r) r) ∙ if-passed _ _ _ (le-ltb maxVariables (h .v) u) ∙ if-refused _ _ _ (lt-ltb maxAtoms (h .c + h .e) w)
-counts-over h (over-lines r u a w) =
-    if-passed _ _ _ (le-ltb maxRoles (h .r) r) ∙ if-passed _ _ _ (le-ltb maxVariables (h .v) u) ∙ if-passed _ _ _ (le-ltb maxAtoms (h .c + h .e) a) ∙ if-refused _ _ _ (lt-ltb maxLines (h .m) w)
-counts-over h (over-role-rows r u a l w) =
-    if-passed _ _ _ (le-ltb maxRoles (h .r) r) ∙ if-passed _ _ _ (le-ltb maxVariables (h .v) u) ∙ if-passed _ _ _ (le-ltb maxAtoms (h .c + h .e) a) ∙ if-passed _ _ _ (le-ltb maxLines (h .m) l)
-    ∙ if-refused _ _ _ (lt-ltb maxRoleRows (h .q) w)
+counts-over h (over-constants w) = if-refused _ _ _ (lt-ltb maxConstants (h .c) w)
+counts-over h (over-roles c w) = if-passed _ _ _ (le-ltb maxConstants (h .c) c) ∙ if-refused _ _ _ (lt-ltb maxRoles (h .r) w)
+counts-over h (over-variables c r w) = if-passed _ _ _ (le-ltb maxConstants (h .c) c) ∙ if-passed _ _ _ (le-ltb maxRoles (h .r) r) ∙ if-refused _ _ _ (lt-ltb maxVariables (h .v) w)
+counts-over h (over-restrictions c r u w) =
+    if-passed _ _ _ (le-ltb maxConstants (h .c) c) ∙ if-passed _ _ _ (le-ltb maxRoles (h .r) r) ∙ if-passed _ _ _ (le-ltb maxVariables (h .v) u) ∙ if-refused _ _ _ (lt-ltb maxRestrictions (h .e) w)
+counts-over h (over-atoms c r u e w) =
+    if-passed _ _ _ (le-ltb maxConstants (h .c) c) ∙ if-passed _ _ _ (le-ltb maxRoles (h .r) r) ∙ if-passed _ _ _ (le-ltb maxVariables (h .v) u) ∙ if-passed _ _ _ (le-ltb maxRestrictions (h .e) e)
+    ∙ if-refused _ _ _ (lt-ltb maxAtoms (h .c + h .e) w)
+counts-over h (over-lines c r u e a w) =
+    if-passed _ _ _ (le-ltb maxConstants (h .c) c) ∙ if-passed _ _ _ (le-ltb maxRoles (h .r) r) ∙ if-passed _ _ _ (le-ltb maxVariables (h .v) u) ∙ if-passed _ _ _ (le-ltb maxRestrictions (h .e) e)
+    ∙ if-passed _ _ _ (le-ltb maxAtoms (h .c + h .e) a) ∙ if-refused _ _ _ (lt-ltb maxLines (h .m) w)
+counts-over h (over-role-rows c r u e a l w) =
+    if-passed _ _ _ (le-ltb maxConstants (h .c) c) ∙ if-passed _ _ _ (le-ltb maxRoles (h .r) r) ∙ if-passed _ _ _ (le-ltb maxVariables (h .v) u) ∙ if-passed _ _ _ (le-ltb maxRestrictions (h .e) e)
+    ∙ if-passed _ _ _ (le-ltb maxAtoms (h .c + h .e) a) ∙ if-passed _ _ _ (le-ltb maxLines (h .m) l) ∙ if-refused _ _ _ (lt-ltb maxRoleRows (h .q) w)
 
 module _ (s : List ℕ) where
   module _ (h : Header) where
@@ -300,7 +310,8 @@ module _ (s : List ℕ) where
         let start = length begun in
         let whole-is = q ∙ ap (λ (l : List ℕ). l ++ tail) is ∙ append-assoc begun (p ∷ flatMap writtenEntry xs) tail in
         let here = here-byte s start p (flatMap writtenEntry xs ++ tail) (behind s begun (p ∷ (flatMap writtenEntry xs ++ tail)) whole-is) in
-        let atoms = right .counts .few-atoms in
+        let constants = right .counts .few-constants in
+        let restrictions = right .counts .few-restrictions in
         let there = many-read s (readEntry s h) writtenEntry (entryDeclared (tableWith h roleRows rows lines)) (entry-reads s h roleRows rows lines all (omega arith) (omega arith)) xs (start + 1) tail known (here .2) in
         let i : (why : Answer) → readEntry s h (start + 1 + length (flatMap writtenEntry xs)) ≡ refused why → reading s ≡ refusal why = λ why e. in-lines roleRows rows lines (p ∷ (flatMap writtenEntry xs ++ tail)) right whole-is whole-first all fewer why
         (line-refused start (here .0) (subst (λ (k : ℕ). k ≤ maxLeft) (sym (here .1)) few) xs _ there (subst (λ (k : ℕ). length xs ≤ k) (sym (here .1)) some-left) why e) in

@@ -25,8 +25,10 @@ module _ (b w : Bounds) (wider : Wider b w) (s : List ℕ) (h : Header) where
   within-wider : Within b h → Within w h
   within-wider i =
       record {
+        few-constants = (let x = i .few-constants in let y = wider .constants in omega arith);
         few-roles = (let x = i .few-roles in let y = wider .roles in omega arith);
         few-variables = (let x = i .few-variables in let y = wider .variables in omega arith);
+        few-restrictions = (let x = i .few-restrictions in let y = wider .restrictions in omega arith);
         few-atoms = (let x = i .few-atoms in let y = wider .atoms in omega arith);
         few-lines = (let x = i .few-lines in let y = wider .lines in omega arith);
         few-role-rows = (let x = i .few-role-rows in let y = wider .roleRows in omega arith);

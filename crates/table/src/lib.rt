@@ -16,8 +16,10 @@ ghost use Rattle.el.specs.Table.{constant, rowAt};
 ghost use Rattle.table.specs.Layout.{roleRowAt, lineStart, IsRowFiller, IsEntryCode, LineBegins, AtLine};
 use answer::Answer;
 use bounds::MAX_ATOMS;
+use bounds::MAX_CONSTANTS;
 use bounds::MAX_LEFT;
 use bounds::MAX_LINES;
+use bounds::MAX_RESTRICTIONS;
 use bounds::MAX_ROLE_ROWS;
 use bounds::MAX_ROLES;
 use bounds::MAX_VARIABLES;
@@ -195,11 +197,17 @@ pub fn header_of(table: &[u8]) -> Header
 fn read_counts(header: Header) -> Step
     ensures { λ r. ⌜ r ≡ stepOf (readCounts bounds header) ⌝ }
 {
+    if MAX_CONSTANTS < wide(header.c) {
+        return Step::Stop(Answer::OverBound(CONSTANTS));
+    }
     if MAX_ROLES < wide(header.r) {
         return Step::Stop(Answer::OverBound(ROLES));
     }
     if MAX_VARIABLES < wide(header.v) {
         return Step::Stop(Answer::OverBound(VARIABLES));
+    }
+    if MAX_RESTRICTIONS < wide(header.e) {
+        return Step::Stop(Answer::OverBound(RESTRICTIONS));
     }
     if MAX_ATOMS < wide(header.c) + wide(header.e) {
         return Step::Stop(Answer::OverBound(RESTRICTIONS));

@@ -26,7 +26,7 @@ Short k (t ∷ ts) = (length t ≤ k) × Short k ts
 abbrev pub numbersRoom : ℕ → ℕ
 numbersRoom k = k * (digits + 1)
 
--- `r15.v11`
+-- `r15.v23`
 abbrev pub atomRoom : ℕ
 atomRoom = 7
 
@@ -34,7 +34,7 @@ atomRoom = 7
 abbrev pub setRoom : ℕ
 setRoom = maxAtoms * (atomRoom + 3) + 3
 
--- `v11: ` and a newline
+-- `v23: ` and a newline
 abbrev pub variableRoom : ℕ
 variableRoom = setRoom + 6
 

@@ -2,6 +2,7 @@
 use borrow.Author.Needs.{needs}
 use mathlib.Core.Path.{sym, ap, _∙_}
 use native.Mathlib.Omega.{arith}
+use Rattle.bounds.specs.Bounds.{setBytes}
 use Rattle.el.specs.Walk.{Outcome}
 use Rattle.table.specs.declared.Header.{Header}
 use Rattle.table.specs.LayoutLaws.{layout, readable-is}
@@ -26,7 +27,7 @@ finish-requires c κs =
 
 returns-3 : tie.Need-returns-3
 returns-3 c =
-    (c .before .before .finish .ensures ∙ ap (λ (o : Outcome). outcomeAs o (c .before .before .before .before .before .before .before .before .before .before .before .before .before .args .out .now)) (c .before .before .before .before .walk .ensures .0)
+    (c .before .before .finish .ensures ∙ ap (λ (o : Outcome). outcomeAs setBytes o (c .before .before .before .before .before .before .before .before .before .before .before .before .before .args .out .now)) (c .before .before .before .before .walk .ensures .0)
     ∙ solve-walked _ _ _ (c .before .before .before .before .before .before .before .header-of .result) (c .before .before .before .before .before .before .wide .result) (c .before .before .before .before .before .before .before .header-of .ensures) (c .before .before .before .before .before .before .wide .ensures) (sym (c .before .before .before .before .before .before .before .before .before .before .check .ensures) ∙ c .before .before .before .before .before .before .before .before .enum-told .given .1) (omega arith))
 
 pub answer-to-spec : {M : Type 1} → statement M

@@ -31,5 +31,5 @@ pub atoms-of-spec : {M : Type 1} → statement M
 atoms-of-spec =
     tie.close
     (tie.spec Inv-loop μ-loop (λ c. (omega arith, atoms-start _ _ _)) (λ c. search needs) (λ c. search needs) (λ c. search needs) (λ c. search needs)
-    (λ c. search needs) (λ c. search needs) (λ c. search needs) loop-again
+    (λ c. search needs) (λ c. search needs) loop-again
     (λ c. atoms-whole _ _ _ _ _ (c .before .loop .inv .1) _ (c .before .loop .inv .0) (c .loop-test .left)))

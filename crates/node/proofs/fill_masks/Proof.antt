@@ -4,7 +4,7 @@ use Prim.Native.Nat.{_-_, _≤_}
 use native.Mathlib.Omega.{arith}
 use borrow.Author.Needs.{needs}
 use lib.ListN.{length, length-set}
-use Rattle.bounds.specs.Bounds.{maxAtoms}
+use Rattle.bounds.specs.Bounds.{maxRestrictions}
 use Rattle.table.specs.Reading.{tableOf}
 use Rattle.table.specs.Layout.{IsRowFiller}
 use Rattle.table.specs.LayoutLaws.{layout}
@@ -15,7 +15,7 @@ use Rattle.node.proofs.fill_masks.Statement.{statement}
 use Rattle.node.proofs.fill_masks.Tie as tie
 
 abbrev Inv-loop : tie.InvT-loop
-Inv-loop table e fill₀ k₀ fill k = (k ≤ e) × (length fill ≡ maxAtoms) × FillMasks (tableOf table .rows) k fill
+Inv-loop table e fill₀ k₀ fill k = (k ≤ e) × (length fill ≡ maxRestrictions) × FillMasks (tableOf table .rows) k fill
 
 abbrev μ-loop : tie.MeasureT-loop
 μ-loop table e fill₀ k₀ fill k = e - k
@@ -28,14 +28,14 @@ unfolding IsRowFiller
 variable-mask-requires c κs = let h = layout _ (c .before .before .before .before .pre .0) .few-variables in filler-names _ _ _ _ (c .filler-of .ensures) (omega arith)
 
 mul-fill : tie.Need-mul-fill Inv-loop μ-loop
-mul-fill c = let h = layout _ (c .before .before .before .before .before .pre .0) .few-atoms in search needs
+mul-fill c = let h = layout _ (c .before .before .before .before .before .pre .0) .few-restrictions in search needs
 
 array-write-fill : tie.Need-array-write-fill Inv-loop μ-loop
-array-write-fill c = let h = layout _ (c .before .before .before .before .before .pre .0) .few-atoms in omega arith
+array-write-fill c = let h = layout _ (c .before .before .before .before .before .pre .0) .few-restrictions in omega arith
 
 loop-again : tie.Need-loop-again Inv-loop μ-loop
 unfolding IsRowFiller
-loop-again c = let h = layout _ (c .before .before .before .before .before .pre .0) .few-atoms in (omega arith, simp length-set (c .before .before .before .loop .inv .1), each-set (c .before .before .before .loop .inv .2) (omega arith) (λ y. c .variable-mask .ensures y ∙ filler-says _ _ _ _ (c .before .filler-of .ensures) y))
+loop-again c = let h = layout _ (c .before .before .before .before .before .pre .0) .few-restrictions in (omega arith, simp length-set (c .before .before .before .loop .inv .1), each-set (c .before .before .before .loop .inv .2) (omega arith) (λ y. c .variable-mask .ensures y ∙ filler-says _ _ _ _ (c .before .filler-of .ensures) y))
 
 pub fill-masks-spec : {M : Type 1} → statement M
 fill-masks-spec =

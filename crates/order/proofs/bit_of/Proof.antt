@@ -10,4 +10,4 @@ unfolding bit
 returns c = refl
 
 pub bit-of-spec : {M : Type 1} → statement M
-bit-of-spec = tie.close (tie.spec (λ c. search needs) (λ c. search needs) returns)
+bit-of-spec = tie.close (tie.spec (λ c. search needs) returns)

@@ -12,9 +12,6 @@ shl-result c = entry-constant-fits _ _ _ (c .wide .ensures) _ (c .before .before
 add-result : tie.Need-add-result
 add-result c = omega (arith, entry-restriction-fits _ _ _ (c .wide2 .ensures) _ (c .before .before .before .before .before .before .pre .1) (sym (c .before .before .before .before .kind-of .ensures) ∙ c .before .before .k2 .given .1))
 
-cast-result : tie.Need-cast-result-2
-cast-result c = omega (arith, entry-restriction-fits _ _ _ (c .wide2 .ensures) _ (c .before .before .before .before .before .before .pre .1) (sym (c .before .before .before .before .kind-of .ensures) ∙ c .before .before .k2 .given .1))
-
 shl-result-2 : tie.Need-shl-result-2
 shl-result-2 c = entry-restriction-fits _ _ _ (c .wide2 .ensures) _ (c .before .before .before .before .before .before .pre .1) (sym (c .before .before .before .before .kind-of .ensures) ∙ c .before .before .k2 .given .1)
 
@@ -44,12 +41,10 @@ entry-set-spec =
     (λ c. search needs)
     (λ c. search needs)
     (λ c κs. search needs)
-    (λ c. search needs)
     shl-result
     (λ c. search needs)
     (λ c κs. search needs)
     add-result
-    cast-result
     shl-result-2
     (λ c. search needs)
     (λ c κs. search needs)

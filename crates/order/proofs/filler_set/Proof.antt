@@ -34,7 +34,6 @@ filler-set-spec =
     (λ c. search needs)
     (λ c. search needs)
     (λ c κs. search needs)
-    (λ c. search needs)
     shl-result
     (λ c. search needs)
     (λ c. search needs)

@@ -14,4 +14,4 @@ returns : tie.Need-returns
 returns c = rw (power-fits (c .args .c) (omega arith)) (low-bits _ _)
 
 pub lacks-constant-spec : {M : Type 1} → statement M
-lacks-constant-spec = tie.close (tie.spec (λ c. search needs) (λ c. search needs) rem-result returns)
+lacks-constant-spec = tie.close (tie.spec (λ c. search needs) rem-result returns)

@@ -32,14 +32,13 @@ row-over-spec =
     (λ c κs. (c .before .before .before .before .before .before .before .pre .0, omega arith))
     (λ c κs. search needs)
     (λ c κs. subst (λ (i : ℕ). i < maxRoles) (sym (c .wide2 .ensures ∙ c .before .role-of2 .ensures)) (role-low _ (c .before .before .before .before .before .before .before .before .before .pre .0) _ (c .before .before .before .before .before .before .before .before .before .pre .1) _ (omega arith)))
-    (λ c. omega (arith, layout _ (c .before .before .before .before .before .before .before .before .before .before .before .pre .0) .few-atoms))
-    (λ c. omega (arith, layout _ (c .before .before .before .before .before .before .before .before .before .before .before .pre .0) .few-atoms))
+    (λ c. omega (arith, layout _ (c .before .before .before .before .before .before .before .before .before .before .before .pre .0) .few-restrictions))
     (λ c. omega arith)
     (λ c. omega arith)
     (λ c. (
       omega arith,
       ⊎-elim
-          (λ w. subst (Over _ _ _) (sym (w .1)) (over-hit _ _ _ _ (omega (arith, layout _ (c .before .before .before .before .before .before .before .before .before .before .before .pre .0) .few-atoms)) (lies-by _ (c .before .before .before .before .before .before .before .before .before .before .before .pre .0) _ (c .before .before .before .before .before .before .before .before .before .before .before .pre .1) _ _ _ _ _ _ (omega arith) (omega arith) (c .before .before .before .before .before .before .before .wide .ensures ∙ c .before .before .before .before .before .before .before .before .role-of .ensures) (c .before .before .wide2 .ensures ∙ c .before .before .before .role-of2 .ensures) refl (sym (c .before .has-role .ensures) ∙ w .0 .taken)) (c .before .before .before .before .before .loop .inv .1)))
+          (λ w. subst (Over _ _ _) (sym (w .1)) (over-hit _ _ _ _ (omega (arith, layout _ (c .before .before .before .before .before .before .before .before .before .before .before .pre .0) .few-restrictions)) (lies-by _ (c .before .before .before .before .before .before .before .before .before .before .before .pre .0) _ (c .before .before .before .before .before .before .before .before .before .before .before .pre .1) _ _ _ _ _ _ (omega arith) (omega arith) (c .before .before .before .before .before .before .before .wide .ensures ∙ c .before .before .before .before .before .before .before .before .role-of .ensures) (c .before .before .wide2 .ensures ∙ c .before .before .before .role-of2 .ensures) refl (sym (c .before .has-role .ensures) ∙ w .0 .taken)) (c .before .before .before .before .before .loop .inv .1)))
           (λ w. subst (Over _ _ _) (sym (w .1)) (over-miss _ _ _ _ (lies-by _ (c .before .before .before .before .before .before .before .before .before .before .before .pre .0) _ (c .before .before .before .before .before .before .before .before .before .before .before .pre .1) _ _ _ _ _ _ (omega arith) (omega arith) (c .before .before .before .before .before .before .before .wide .ensures ∙ c .before .before .before .before .before .before .before .before .role-of .ensures) (c .before .before .wide2 .ensures ∙ c .before .before .before .role-of2 .ensures) refl (sym (c .before .has-role .ensures) ∙ w .0 .left)) (c .before .before .before .before .before .loop .inv .1)))
           (c .if1 .came),
     ))

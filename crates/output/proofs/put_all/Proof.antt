@@ -6,7 +6,7 @@ use native.Mathlib.Omega.{arith}
 use lib.ListN.{length, take}
 use lib.Seq.{length-take-le}
 use Rattle.bounds.specs.Bounds.{setBytes, maxVariables}
-use Rattle.output.specs.Written.{assignmentBytes, written}
+use Rattle.output.specs.Written.{assignmentBytes, writtenIn, written}
 use Rattle.output.specs.WrittenLaws.{written-length}
 use Rattle.output.proofs.Laws.{all-turn, part-room}
 use Rattle.output.proofs.put_all.Statement.{statement}
@@ -19,7 +19,7 @@ abbrev μ-loop : tie.MeasureT-loop
 μ-loop out₀ n set i₀ out i = n - i
 
 loop-holds : tie.Need-loop-holds Inv-loop μ-loop
-unfolding written assignmentBytes
+unfolding writtenIn assignmentBytes
 loop-holds c = (omega arith, refl, refl)
 
 loop-again : tie.Need-loop-again Inv-loop μ-loop
@@ -29,7 +29,7 @@ loop-again c =
     let m : length (a .t2) ≡ maxVariables = search needs in
     let e : _ ≡ written (take (l .i + 1) (a .t2)) (a .out .now) = all-turn (l .i) (a .t2) _ (l .out) (c .before .before .put-set .last .0) (omega arith) (omega arith) (l .inv .2) (c .before .before .put-set .ensures) in
     let k : length (take (l .i + 1) (a .t2)) ≡ l .i + 1 = length-take-le (l .i + 1) (a .t2) (omega arith) in
-    (omega arith, ap length e ∙ written-length (take (l .i + 1) (a .t2)) (a .out .now) (omega arith), e))
+    (omega arith, ap length e ∙ written-length setBytes (take (l .i + 1) (a .t2)) (a .out .now) (omega arith), e))
 
 returns : tie.Need-returns Inv-loop μ-loop
 returns c =

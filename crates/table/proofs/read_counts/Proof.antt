@@ -4,7 +4,7 @@ use borrow.Author.Needs.{needs}
 use mathlib.Core.Path.{sym, ap, _∙_}
 use Rattle.bounds.specs.Bounds.{bounds}
 use Rattle.table.specs.declared.Step.the-variants.{Next}
-use Rattle.table.specs.Refusal.{over-roles, over-variables, over-atoms, over-lines, over-role-rows}
+use Rattle.table.specs.Refusal.{over-constants, over-roles, over-variables, over-restrictions, over-atoms, over-lines, over-role-rows}
 use Rattle.table.specs.declared.Step.the-variants.{Next}
 use Rattle.table.specs.RefusalLaws.{counts-over}
 use Rattle.table.specs.ReadLaws.{counts-within}
@@ -19,18 +19,22 @@ read-counts-spec =
     tie.close
     (tie.spec
     (λ c κs. search needs)
-    (λ c. stops (counts-over _ (over-roles (omega arith))))
+    (λ c. stops (counts-over _ (over-constants (omega arith))))
     (λ c κs. search needs)
-    (λ c. stops (counts-over _ (over-variables (omega arith) (omega arith))))
+    (λ c. stops (counts-over _ (over-roles (omega arith) (omega arith))))
+    (λ c κs. search needs)
+    (λ c. stops (counts-over _ (over-variables (omega arith) (omega arith) (omega arith))))
+    (λ c κs. search needs)
+    (λ c. stops (counts-over _ (over-restrictions (omega arith) (omega arith) (omega arith) (omega arith))))
     (λ c κs. search needs)
     (λ c κs. search needs)
     (λ c. search needs)
-    (λ c. stops (counts-over _ (over-atoms (omega arith) (omega arith) (omega arith))))
+    (λ c. stops (counts-over _ (over-atoms (omega arith) (omega arith) (omega arith) (omega arith) (omega arith))))
     (λ c κs. search needs)
-    (λ c. stops (counts-over _ (over-lines (omega arith) (omega arith) (omega arith) (omega arith))))
+    (λ c. stops (counts-over _ (over-lines (omega arith) (omega arith) (omega arith) (omega arith) (omega arith) (omega arith))))
     (λ c κs. search needs)
-    (λ c. stops (counts-over _ (over-role-rows (omega arith) (omega arith) (omega arith) (omega arith) (omega arith))))
+    (λ c. stops (counts-over _ (over-role-rows (omega arith) (omega arith) (omega arith) (omega arith) (omega arith) (omega arith) (omega arith))))
     (λ c κs. search needs)
     (λ c.
     ap Next (c .header-end .ensures)
-    ∙ ap stepOf (sym (counts-within bounds _ (record { few-roles = omega arith; few-variables = omega arith; few-atoms = omega arith; few-lines = omega arith; few-role-rows = omega arith })))))
+    ∙ ap stepOf (sym (counts-within bounds _ (record { few-constants = omega arith; few-roles = omega arith; few-variables = omega arith; few-restrictions = omega arith; few-atoms = omega arith; few-lines = omega arith; few-role-rows = omega arith })))))

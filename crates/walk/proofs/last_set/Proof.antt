@@ -14,4 +14,4 @@ sub-result : tie.Need-sub-result
 sub-result c = rw (power-fits (c .args .n) (omega arith)) (pow-pos (c .args .n))
 
 pub last-set-spec : {M : Type 1} → statement M
-last-set-spec = tie.close (tie.spec (λ c. search needs) (λ c. search needs) sub-result returns)
+last-set-spec = tie.close (tie.spec (λ c. search needs) sub-result returns)

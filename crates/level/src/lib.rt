@@ -9,13 +9,12 @@ use node::Counts;
 ghost use mathlib.Core.Path.{_≡_};
 ghost use Prim.Native.Nat.{_≤_};
 ghost use lib.ListN.{length, take};
-ghost use Rattle.bounds.specs.Bounds.{maxLines};
+ghost use Rattle.bounds.specs.Bounds.{maxVariables, maxLines};
 ghost use Rattle.el.specs.Table.{roleOrder};
 ghost use Rattle.el.specs.Walk.{dead};
 ghost use Rattle.table.specs.Reading.{tableOf};
 ghost use Rattle.level.specs.Level.{freshMask, isFresh, Listed, LevelGiven, LevelFor, freshFails};
-ghost use Rattle.level.specs.Sweep.{FreshGiven, ChildGiven, SweepGiven, Sweeps};
-use node::Sets;
+ghost use Rattle.level.specs.Sweep.{setsOf, FreshGiven, ChildGiven, SweepGiven, Sweeps};
 
 // The atoms that lead a newest variable back to itself, those that lead it to a variable that is not chosen, and the numbers of
 // the lines that the children have to test.
@@ -66,20 +65,25 @@ fn collect(
     }
 }
 
-// The level of a node: that of its parent's children. One row of marks has the variables that lead to the newest one, another those that
+// The level of the node of the first k sets: that of its parent's children. One row of marks has the variables that lead to the newest one, another those that
 // lead to one after it, which is not chosen; the atoms whose filler is so marked are the two masks of the level.
-pub fn level_of(fill: &[VariableMask], mask: &[VariableMask], counts: Counts, sets: Sets) -> Level
-    requires { ⌜ LevelGiven (now fill) (now mask) counts sets ⌝ }
-    ensures { λ r. ⌜ LevelFor (now (fill .entry)) (now (mask .entry)) counts sets r ⌝ }
+pub fn level_of(
+    fill: &[VariableMask],
+    mask: &[VariableMask],
+    counts: Counts,
+    set: &[SetNumber],
+    k: usize,
+) -> Level
+    requires { ⌜ LevelGiven (now fill) (now mask) counts (setsOf (now set) k) × (length (now set) ≡ maxVariables) ⌝ }
+    ensures { λ r. ⌜ LevelFor (now (fill .entry)) (now (mask .entry)) counts (setsOf (now (set .entry)) k) r ⌝ }
 {
     let c = counts.c;
     let e = counts.e;
-    let set = sets.set;
-    let y = sets.chosen - 1;
+    let y = k - 1;
     let newest = 1 << y;
-    let back = node::leading_to(fill, c, e, &set, y, newest);
+    let back = node::leading_to(fill, c, e, set, y, newest);
     let later = node::others(node::first_mask(y + 1));
-    let out = node::leading_to(fill, c, e, &set, y, later);
+    let out = node::leading_to(fill, c, e, set, y, later);
     let near = node::others(out.marked);
     collect(mask, counts.m, back.marked, near, back.atoms, out.atoms)
 }
@@ -154,7 +158,7 @@ pub struct Swept {
     pub at: SetNumber,
 }
 
-// Examines the node and its siblings after it, at most `most` of them, up to the first that is live.
+// Examines the node of the first k sets and its siblings after it, at most `most` of them, up to the first that is live.
 pub fn sweep(
     table: &[u8],
     over: &[RowMask],
@@ -162,20 +166,20 @@ pub fn sweep(
     start: &[Place],
     level: Level,
     counts: Counts,
-    sets: Sets,
+    first: &[SetNumber; bounds::MAX_VARIABLES],
+    k: usize,
     last: SetNumber,
     most: Count,
 ) -> Swept
-    requires { ⌜ SweepGiven (now table) (now over) (now inner) (now start) level counts sets last ⌝ }
-    ensures { λ r. ⌜ Sweeps (tableOf (now (table .entry))) sets last most r ⌝ }
+    requires { ⌜ SweepGiven (now table) (now over) (now inner) (now start) level counts (setsOf (now first) k) last × (length (now first) ≡ maxVariables) ⌝ }
+    ensures { λ r. ⌜ Sweeps (tableOf (now (table .entry))) (setsOf (now (first .entry)) k) last most r ⌝ }
 {
-    let k = sets.chosen;
     let y = k - 1;
     let turning = level.turning;
     let leaving = level.leaving;
     let fresh = level.fresh;
     let few = level.few;
-    let mut set = sets.set;
+    let mut set = *first;
     let mut passed = 0;
     while passed < most {
         let x = set[y];

@@ -85,9 +85,9 @@ module _ (s : List ℕ) (h : Header) (t : Table) (was : readingWithin narrowBoun
     same (solved n a) w = (
       refl,
       λ said x l.
-      let many : length a ≡ t .variables = w .2 .0 .0 in
-      let low : getD a x 0 < 2 ^ 24 = small a (w .2 .0) x (omega arith) in
-      set-back setBytes a out x (omega arith) (omega arith) ∙ sym (set-back narrowSetBytes a narrow x (omega arith) (omega arith)),
+          let many : length a ≡ t .variables = w .2 .0 .0 in
+          let low : getD a x 0 < 2 ^ 24 = small a (w .2 .0) x (omega arith) in
+          set-back setBytes a out x (omega arith) (omega arith) ∙ sym (set-back narrowSetBytes a narrow x (omega arith) (omega arith)),
     )
     same (nothing n) w = (refl, λ said. absurd (let z : 8 ≡ 0 = ap (λ (a : Answer). handed a .number) (said .1) in let y : ⊥ = omega arith in y))
     same (budget n) w = (refl, λ said. absurd (let z : 9 ≡ 0 = ap (λ (a : Answer). handed a .number) (said .1) in let y : ⊥ = omega arith in y))

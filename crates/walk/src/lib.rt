@@ -127,17 +127,6 @@ pub struct Gone {
     pub passed: Count,
 }
 
-// The sibling with the set number x.
-fn moved(sets: Sets, x: SetNumber) -> Sets
-    requires { ⌜ (0 < sets .chosen) × (sets .chosen ≤ maxVariables) ⌝ }
-    ensures { λ r. ⌜ (r .set ≡ siblingOf sets x) × (r .chosen ≡ sets .chosen) ⌝ }
-{
-    let mut set = sets.set;
-    let k = sets.chosen;
-    set[k - 1] = x;
-    Sets { set, chosen: k }
-}
-
 // Sweeps over the siblings from the node on, at most `most` of them, and steps on from where that ends.
 fn advance(
     table: &[u8],
@@ -153,23 +142,41 @@ fn advance(
     requires { ⌜ Given (now table) counts last × SweepGiven (now table) (now over) (now inner) (now start) level counts sets last × (0 < most) ⌝ }
     ensures { λ r. ⌜ Advances (tableOf (now (table .entry))) sets most r ⌝ }
 {
-    let swept = level::sweep(table, over, inner, start, level, counts, sets, last, most);
-    let here = moved(sets, swept.at);
+    let k = sets.chosen;
+    let swept = level::sweep(
+        table,
+        over,
+        inner,
+        start,
+        level,
+        counts,
+        &sets.set,
+        k,
+        last,
+        most,
+    );
     let passed = swept.passed;
     let end = swept.end;
+    let mut set = sets.set;
+    set[k - 1] = swept.at;
     match end {
         Halt::Live => {
-            let step = enter(counts.v, here);
-            let next = step.sets;
-            let going = step.going;
+            if k == counts.v {
+                return Gone {
+                    going: Going::Solved,
+                    sets: Sets { set, chosen: k },
+                    passed,
+                };
+            }
+            set[k] = 0;
             Gone {
-                going,
-                sets: next,
+                going: Going::On,
+                sets: Sets { set, chosen: k + 1 },
                 passed,
             }
         }
         Halt::Over => {
-            let step = next_node(here, last);
+            let step = next_node(Sets { set, chosen: k }, last);
             let next = step.sets;
             let going = step.going;
             Gone {
@@ -180,7 +187,7 @@ fn advance(
         }
         Halt::Spent => Gone {
             going: Going::On,
-            sets: here,
+            sets: Sets { set, chosen: k },
             passed,
         },
     }
@@ -206,32 +213,31 @@ fn run_below(
 {
     let end = counted + share;
     let mut sets = first;
-    let mut level = level::level_of(fill, mask, counts, first);
+    let mut level = level::level_of(fill, mask, counts, &first.set, first.chosen);
     let mut count = counted;
     while count < end {
         let most = end - count;
         let step = advance(table, over, inner, start, level, counts, sets, last, most);
         count += step.passed;
-        let next = step.sets;
+        sets = step.sets;
         let going = step.going;
         match going {
             Going::Solved => {
                 return State {
                     going: Going::Solved,
-                    sets: next,
+                    sets,
                     count,
                 };
             }
             Going::Over => {
                 return State {
                     going: Going::Over,
-                    sets: next,
+                    sets,
                     count,
                 };
             }
             Going::On => {
-                level = level::level_of(fill, mask, counts, next);
-                sets = next;
+                level = level::level_of(fill, mask, counts, &sets.set, sets.chosen);
             }
         }
     }

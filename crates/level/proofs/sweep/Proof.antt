@@ -15,18 +15,18 @@ use Rattle.level.proofs.sweep.Statement.{statement}
 use Rattle.level.proofs.sweep.Tie as tie
 
 abbrev Inv-loop : tie.InvT-loop
-Inv-loop table over inner start counts last most k y turning leaving fresh few set₀ passed₀ set passed =
+Inv-loop table over inner start counts first k last most y turning leaving fresh few set₀ passed₀ set passed =
     (passed ≤ most) × (0 < k) × (k ≤ maxVariables) × (last < 2 ^ maxAtoms) × (length set ≡ maxVariables) × At (tableOf table) set₀ k last passed set
     × ChildGiven table over inner start turning leaving fresh few counts set₀ k
 
 abbrev μ-loop : tie.MeasureT-loop
-μ-loop table over inner start counts last most k y turning leaving fresh few set₀ passed₀ set passed = most - passed
+μ-loop table over inner start counts first k last most y turning leaving fresh few set₀ passed₀ set passed = most - passed
 
 sub-y : tie.Need-sub-y Inv-loop μ-loop
-sub-y c = let h = child-place (c .before .before .before .before .pre .child (search needs)) in search needs
+sub-y c = let p = c .before .before .before .before .pre in let h = child-place (p .0 .child (p .1)) in search needs
 
 loop-holds : tie.Need-loop-holds Inv-loop μ-loop
-loop-holds c = let p = c .before .before .before .before .before .before .pre in let g = p .child (search needs) in let h = child-place g in (omega arith, h .0, h .1, p .narrow, g .room, at-start (p .first), g)
+loop-holds c = let p = c .before .before .before .before .before .before .pre in let g = p .0 .child (p .1) in let h = child-place g in (omega arith, h .0, h .1, p .0 .narrow, g .room, at-start (p .0 .first), g)
 
 child-is-dead-requires : tie.Need-child-is-dead-requires Inv-loop μ-loop
 child-is-dead-requires c κs = let i = c .before .before .before .loop .inv in at-child (i .6) (i .5)

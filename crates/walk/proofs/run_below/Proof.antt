@@ -21,16 +21,16 @@ abbrev μ-loop : tie.MeasureT-loop
 μ-loop table over inner fill mask start counts last counted share end sets₀ level₀ count₀ sets level count = end - count
 
 level-of-requires : tie.Need-level-of-requires Inv-loop μ-loop
-level-of-requires c κs = let p = c .before .before .before .before .before .before .pre in given-level (p .0 .0) _ (p .1 .0 .in-range) (p .0 .1) (p .1 .1)
+level-of-requires c κs = let p = c .before .before .before .before .before .before .before .before .before .pre in (given-level (p .0 .0) _ (p .1 .0 .in-range) (p .0 .1) (p .1 .1), search needs)
 
 loop-holds : tie.Need-loop-holds Inv-loop μ-loop
-loop-holds c = let p = c .before .before .before .before .before .before .before .pre in (running-start _ _ _ _ (omega arith) (p .1 .0) (p .1 .1), level-is (p .0 .0) _ (p .1 .0 .in-range) (p .0 .1) (p .1 .1) _ (c .level-of .ensures))
+loop-holds c = let p = c .before .before .before .before .before .before .before .before .before .before .pre in (running-start _ _ _ _ (omega arith) (p .1 .0) (p .1 .1), level-is (p .0 .0) _ (p .1 .0 .in-range) (p .0 .1) (p .1 .1) _ (c .level-of .ensures))
 
 advance-requires : tie.Need-advance-requires Inv-loop μ-loop
-advance-requires c κs = let p = c .before .before .before .before .before .before .before .before .before .pre .0 in let l = c .before .loop in let r = l .inv .0 in (p .0, given-sweep (p .0) (l .sets) (r .sound .in-range) (p .1) (r .parent) (l .level) (r .sound .live-above) (l .inv .1), omega arith)
+advance-requires c κs = let p = c .before .before .before .before .before .before .before .before .before .before .before .before .pre .0 in let l = c .before .loop in let r = l .inv .0 in (p .0, given-sweep (p .0) (l .sets) (r .sound .in-range) (p .1) (r .parent) (l .level) (r .sound .live-above) (l .inv .1), omega arith)
 
 add-count : tie.Need-add-count Inv-loop μ-loop
-add-count c = let w = c .before .before .before .before .before .before .before .before .before .before .before .pre .1 .2 in let h = running-fits (c .before .before .before .loop .inv .0) (c .before .advance .result) (c .before .before .loop-test .taken) (c .before .advance .ensures) in search needs
+add-count c = let w = c .before .before .before .before .before .before .before .before .before .before .before .before .before .before .pre .1 .2 in let h = running-fits (c .before .before .before .loop .inv .0) (c .before .advance .result) (c .before .before .loop-test .taken) (c .before .advance .ensures) in search needs
 
 returns : tie.Need-returns Inv-loop μ-loop
 returns c = running-ended (c .before .before .before .before .before .before .loop .inv .0) (c .before .before .before .before .advance .result) (c .before .before .before .before .before .loop-test .taken) (c .before .before .before .before .advance .ensures) Solved (c .enum-told .given .1) tt _ (omega arith)
@@ -39,14 +39,14 @@ returns-2 : tie.Need-returns-2 Inv-loop μ-loop
 returns-2 c = running-ended (c .before .before .before .before .before .before .loop .inv .0) (c .before .before .before .before .advance .result) (c .before .before .before .before .before .loop-test .taken) (c .before .before .before .before .advance .ensures) Over (c .enum-told2 .given .1) tt _ (omega arith)
 
 level-of-requires-2 : tie.Need-level-of-requires-2 Inv-loop μ-loop
-level-of-requires-2 c κs = let p = c .before .before .before .before .before .before .before .before .before .before .before .before .before .before .pre .0 in let r = running-on (c .before .before .before .before .before .before .loop .inv .0) (c .before .before .before .before .advance .result) (c .before .before .before .before .before .loop-test .taken) (c .before .before .before .before .advance .ensures) (c .enum-told3 .given .1) in given-level (p .0) _ (r .sound .in-range) (p .1) (r .parent)
+level-of-requires-2 c κs = let p = c .before .before .before .before .before .before .before .before .before .before .before .before .before .before .before .before .before .before .before .before .pre .0 in let r = running-on (c .before .before .before .before .before .before .before .before .before .loop .inv .0) (c .before .before .before .before .before .before .before .advance .result) (c .before .before .before .before .before .before .before .before .loop-test .taken) (c .before .before .before .before .before .before .before .advance .ensures) (c .before .before .before .enum-told3 .given .1) in (given-level (p .0) _ (r .sound .in-range) (p .1) (r .parent), search needs)
 
 loop-less : tie.Need-loop-less Inv-loop μ-loop
-loop-less c = let h = running-fits (c .before .before .before .before .before .before .before .loop .inv .0) (c .before .before .before .before .before .advance .result) (c .before .before .before .before .before .before .loop-test .taken) (c .before .before .before .before .before .advance .ensures) in omega arith
+loop-less c = let h = running-fits (c .before .before .before .before .before .before .before .before .before .before .loop .inv .0) (c .before .before .before .before .before .before .before .before .advance .result) (c .before .before .before .before .before .before .before .before .before .loop-test .taken) (c .before .before .before .before .before .before .before .before .advance .ensures) in omega arith
 
 loop-again : tie.Need-loop-again Inv-loop μ-loop
 loop-again c =
-    let p = c .before .before .before .before .before .before .before .before .before .before .before .before .before .before .before .pre .0 in let r = running-on (c .before .before .before .before .before .before .before .loop .inv .0) (c .before .before .before .before .before .advance .result) (c .before .before .before .before .before .before .loop-test .taken) (c .before .before .before .before .before .advance .ensures) (c .before .enum-told3 .given .1) in
+    let p = c .before .before .before .before .before .before .before .before .before .before .before .before .before .before .before .before .before .before .before .before .before .pre .0 in let r = running-on (c .before .before .before .before .before .before .before .before .before .before .loop .inv .0) (c .before .before .before .before .before .before .before .before .advance .result) (c .before .before .before .before .before .before .before .before .before .loop-test .taken) (c .before .before .before .before .before .before .before .before .advance .ensures) (c .before .before .before .before .enum-told3 .given .1) in
     (r, level-is (p .0) _ (r .sound .in-range) (p .1) (r .parent) _ (c .level-of2 .ensures))
 
 returns-3 : tie.Need-returns-3 Inv-loop μ-loop

@@ -213,9 +213,9 @@ fn run_below(
 {
     let end = counted + share;
     let mut sets = first;
-    let mut level = level::level_of(fill, mask, counts, &first.set, first.chosen);
     let mut count = counted;
     while count < end {
+        let level = level::level_of(fill, mask, counts, &sets.set, sets.chosen);
         let most = end - count;
         let step = advance(table, over, inner, start, level, counts, sets, last, most);
         count += step.passed;
@@ -236,9 +236,7 @@ fn run_below(
                     count,
                 };
             }
-            Going::On => {
-                level = level::level_of(fill, mask, counts, &sets.set, sets.chosen);
-            }
+            Going::On => {}
         }
     }
     State {

@@ -449,13 +449,12 @@ static void atoms_56(void)
 
 static void variables_24(void)
 {
-    for (u32 i = 0; i < 8; i++) {
+    for (u32 i = 0; i < 16; i++) {
         far_lines(24 - i % 3, 1 + i % 2, 1 + i % 3, 2 + i % 6);
     }
     two_towers(12, 2, 400000);
-    two_towers(12, 1, 400000);
     role_towers(12, 16, 400000);
-    wide_tower(2, 30, 24, 20, 20, 300000);
+    wide_tower(2, 30, 24, 20, 20, 100000);
     wide_tower(4, 32, 24, 12, 30, 300000);
 }
 

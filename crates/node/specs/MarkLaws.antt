@@ -1,7 +1,7 @@
 -- Laws of marks: the atoms whose filler is marked, and the variables that lead to the marks.
 --
 --   atoms-start, atoms-more, atoms-skip, atoms-whole == the restrictions one by one, and what their atoms say
---   has-some, has-all == the variables whose sets have one of the atoms are those that depend on a marked one
+--   has-none, has-some, has-all == the variables whose sets have one of the atoms are those that depend on a marked one
 --   more-ones, all-ones == how many variables masks have
 --   marking-start, marking-more == a round that marks more
 --   leads-stable   == a round that marks no more
@@ -9,18 +9,18 @@
 --   leads-same     == relations with the same steps
 --   leads-back     == what leads to a marked one is marked
 use mathlib.Core.Path.{_≡_, refl, sym, ap, subst, _∙_}
-use mathlib.Core.Bool.{Bool, true, false, _&&_, _||_, not}
+use mathlib.Core.Bool.{Bool, true, false, _&&_, _||_, not, and-false}
 use mathlib.Core.Logic.{_⊎_, inl, inr}
 use mathlib.Core.List.{List}
 use Prim.Native.Nat.{ℕ, _+_, _*_, _%_, _^_, _≤_, _<_}
 use native.Mathlib.Omega.{arith}
 use native.Mathlib.Decide.{decLt}
 use borrow.Author.Tests.{eq-eqb, ne-eqb}
-use lib.Bits.{bitAnd, bitOr}
+use lib.Bits.{bitAnd, bitOr, and-zero-r}
 use lib.Dec.{T, T-not, not-T, eqb, ltb, eqb→eq, ltb→lt}
 use lib.ListN.{getD}
 use Rattle.el.specs.Test.{anyBelow, bit}
-use Rattle.el.specs.TestLaws.{true-is, false-not, same-test, or-left, or-right, or-cases, and-make, and-left, and-right, anyBelow-next, anyBelow-hit, anyBelow-found}
+use Rattle.el.specs.TestLaws.{true-is, false-not, bit-none, same-test, or-left, or-right, or-cases, and-make, and-left, and-right, anyBelow-next, anyBelow-hit, anyBelow-found}
 use Rattle.el.specs.Assignment.{Reaches, once, then}
 use Rattle.el.specs.BitLaws.{bit-or}
 use Rattle.el.specs.CircleLaws.{reaches-along}
@@ -83,6 +83,11 @@ module _ (fill : List ℕ) (c m : ℕ) where
 
 ----------------------------------------------------------------------------------------------------
 -- The variables whose sets have one of the atoms
+
+-- of no atoms no set has one
+pub has-none : (set : List ℕ) (atoms n : ℕ) → atoms ≡ 0 → Picks (hasOne set atoms) n 0
+unfolding hasOne
+has-none set atoms n z = record { bits = λ y. bit-none y ∙ sym (ap (λ b. ltb y n && not b) (eq-eqb _ 0 (ap (bitAnd (getD set y 0)) z ∙ and-zero-r (getD set y 0))) ∙ and-false (ltb y n)) }
 
 module _ {fill : List ℕ} {c e m atoms : ℕ} (into : AtomsInto fill c e m atoms) (set : List ℕ) (n k : ℕ) (picks : Picks (hasOne set atoms) n k) where
   pub has-some : (x : ℕ) → T (bit x k) → (y : ℕ) × T (bit y m) × T (dependsIn fill c e set n x y)

@@ -138,11 +138,14 @@ fn atoms_of(fill: &[VariableMask], c: usize, e: usize, mask: VariableMask) -> Se
     atoms
 }
 
-// The mask of those of the first n variables whose sets have one of the atoms.
+// The mask of those of the first n variables whose sets have one of the atoms; where there is no atom, none has.
 fn having(set: &[SetNumber], n: usize, atoms: SetNumber) -> VariableMask
     requires { ⌜ (n ≤ maxVariables) × (n ≤ length (now set)) ⌝ }
     ensures { λ r. ⌜ Picks (hasOne (now (set .entry)) atoms) n r ⌝ }
 {
+    if atoms == 0 {
+        return 0;
+    }
     let mut mask = 0;
     let mut x = 0;
     while x < n {

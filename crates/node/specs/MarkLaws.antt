@@ -4,7 +4,7 @@
 --   has-none, has-some, has-all == the variables whose sets have one of the atoms are those that depend on a marked one
 --   more-ones, all-ones == how many variables masks have
 --   marking-start, marking-more == a round that marks more
---   leads-stable   == a round that marks no more
+--   leads-stable, leads-none == a round that marks no more, and none where no atom leads to a marked variable
 --   leads-full     == as many rounds as variables
 --   leads-same     == relations with the same steps
 --   leads-back     == what leads to a marked one is marked
@@ -85,7 +85,7 @@ module _ (fill : List ℕ) (c m : ℕ) where
 -- The variables whose sets have one of the atoms
 
 -- of no atoms no set has one
-pub has-none : (set : List ℕ) (atoms n : ℕ) → atoms ≡ 0 → Picks (hasOne set atoms) n 0
+has-none : (set : List ℕ) (atoms n : ℕ) → atoms ≡ 0 → Picks (hasOne set atoms) n 0
 unfolding hasOne
 has-none set atoms n z = record { bits = λ y. bit-none y ∙ sym (ap (λ b. ltb y n && not b) (eq-eqb _ 0 (ap (bitAnd (getD set y 0)) z ∙ and-zero-r (getD set y 0))) ∙ and-false (ltb y n)) }
 
@@ -177,6 +177,13 @@ module _ (fill : List ℕ) (c e : ℕ) (set : List ℕ) (n seed m atoms i : ℕ)
       leading = marking .leading;
       all = λ x y u w. subst (λ (j : ℕ). T (bit x j)) q (subst T (sym (bit-or x m k)) (or-right (bit x m) (bit x k) (has-all (marking .into) set n k picks x y w u)));
     }
+
+  -- no atom leads to a marked one
+  pub leads-none : atoms ≡ 0 → LeadsInto d seed m
+  leads-none z = record {
+    leading = marking .leading;
+    all = λ x y u w. absurd (subst T (bit-none x) (has-all (marking .into) set n 0 (has-none set atoms n z) x y w u));
+  }
 
   -- as many rounds as variables: each is marked
   pub leads-full : n ≤ i → LeadsInto d seed m

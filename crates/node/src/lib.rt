@@ -138,14 +138,11 @@ fn atoms_of(fill: &[VariableMask], c: usize, e: usize, mask: VariableMask) -> Se
     atoms
 }
 
-// The mask of those of the first n variables whose sets have one of the atoms; where there is no atom, none has.
+// The mask of those of the first n variables whose sets have one of the atoms.
 fn having(set: &[SetNumber], n: usize, atoms: SetNumber) -> VariableMask
     requires { ⌜ (n ≤ maxVariables) × (n ≤ length (now set)) ⌝ }
     ensures { λ r. ⌜ Picks (hasOne (now (set .entry)) atoms) n r ⌝ }
 {
-    if atoms == 0 {
-        return 0;
-    }
     let mut mask = 0;
     let mut x = 0;
     while x < n {
@@ -158,7 +155,7 @@ fn having(set: &[SetNumber], n: usize, atoms: SetNumber) -> VariableMask
 }
 
 // Marks the variables of the mask, and all that lead to one of them over the first n variables' sets. A round marks those that depend
-// on a marked one; where it marks no more, all are marked, and n rounds are enough.
+// on a marked one; where it marks no more, or no atom leads to a marked one, all are marked, and n rounds are enough.
 pub fn leading_to(
     fill: &[VariableMask],
     c: usize,
@@ -173,7 +170,7 @@ pub fn leading_to(
     let mut marked = mask;
     let mut atoms = atoms_of(fill, c, e, mask);
     let mut round = 0;
-    while round < n {
+    while round < n && atoms != 0 {
         let more = marked | having(set, n, atoms);
         if more == marked {
             return Marks { marked, atoms };

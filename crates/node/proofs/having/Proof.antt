@@ -9,7 +9,6 @@ use borrow.Author.Tests.{eq-eqb, ne-eqb}
 use Rattle.node.specs.Mask.{Picks}
 use Rattle.node.specs.MaskLaws.{pick-start, pick-more, pick-skip, pick-whole}
 use Rattle.node.specs.Marks.{hasOne}
-use Rattle.node.specs.MarkLaws.{has-none}
 use Rattle.node.proofs.having.Statement.{statement}
 use Rattle.node.proofs.having.Tie as tie
 
@@ -26,12 +25,12 @@ loop-again c = (
   ⊎-elim
       (λ w. subst (Picks _ _) (sym (w .1)) (pick-more (c .before .before .before .loop .inv .1) (omega arith) (ap not (ne-eqb _ _ (w .0 .taken)))))
       (λ w. subst (Picks _ _) (sym (w .1)) (pick-skip (c .before .before .before .loop .inv .1) (ap not (eq-eqb _ _ (w .0 .left)))))
-      (c .if2 .came),
+      (c .if1 .came),
 )
 
 pub having-spec : {M : Type 1} → statement M
 having-spec =
     tie.close
-    (tie.spec Inv-loop μ-loop (λ c. has-none _ _ _ (c .if1 .taken)) (λ c. (omega arith, pick-start)) (λ c. search needs) (λ c. search needs) (λ c. search needs)
+    (tie.spec Inv-loop μ-loop (λ c. (omega arith, pick-start)) (λ c. search needs) (λ c. search needs) (λ c. search needs)
     (λ c. search needs) (λ c. search needs) (λ c. search needs) loop-again
     (λ c. pick-whole (c .before .loop .inv .1) (c .before .loop .inv .0) (c .loop-test .left)))

@@ -4,7 +4,7 @@
  * Link with libmakrothel.a, which `rt staticlib makrothel` writes to target/staticlib (x86-64 Linux). The archive
  * needs memcpy and memset of the C library and nothing else: no heap, no files, no state between calls. Calls from
  * several threads at once are safe if they lend different memory. The greatest stack that a call of makrothel_solve
- * was seen to use is 5,860 bytes (docs/BENCHMARKS.md).
+ * was seen to use is 9,992 bytes (docs/BENCHMARKS.md).
  *
  * Every byte string, every line number, every budget and every output length is answered: no call fails in another
  * way than by its number. What is answered is proved (crates/makrothel/src/c.rt, specs/C.antt). What is not proved

@@ -1,0 +1,5 @@
+pub mod Window
+pub mod WindowLaws
+pub mod Spelling
+pub mod Given
+pub mod Step

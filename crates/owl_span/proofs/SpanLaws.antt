@@ -139,8 +139,8 @@ unfolding inside
 next-inside s g at does count c k n q i = (
   inside g rest,
   ap (inside g) (rest-turn s at does (c .within) k)
-  ∙ ap₂ (λ (a b : Bool). inside g (elim (a && b) [ true ↦ placedAt s at does ∷ rest | false ↦ rest ])) n (lt-ltb 0 does q)
-  ∙ ap (λ (b : Bool). elim b [ true ↦ placedAt s at does ∷ inside g rest | false ↦ inside g rest ]) i,
+      ∙ ap₂ (λ (a b : Bool). inside g (elim (a && b) [ true ↦ placedAt s at does ∷ rest | false ↦ rest ])) n (lt-ltb 0 does q)
+      ∙ ap (λ (b : Bool). elim b [ true ↦ placedAt s at does ∷ inside g rest | false ↦ inside g rest ]) i,
 )
   where
     rest : List Placed
@@ -161,10 +161,10 @@ first-number : (s : List ℕ) (g p : ℕ) (n : Name) → g ≤ 2 → groupTakes 
 unfolding different declaredAt isAmong anyOf
 first-number s g p n h t e l = (
   ap (place sameName n) (group-is s g h) ∙ place-count placeIn nameIn sameName sameName-refl sameName-means n (length s) (inside g (placed s)) (all-rising s g)
-  ∙ ap (λ (k : ℕ). differentBefore placeIn nameIn sameName k (inside g (placed s))) first,
+      ∙ ap (λ (k : ℕ). differentBefore placeIn nameIn sameName k (inside g (placed s))) first,
   true-is (isAmong sameName n (groupNames (namesIn s) g))
-  (ap (isAmong sameName n) (group-is s g h) ∙ among-once sameName sameName-means n (keys placeIn nameIn (inside g (placed s))) []
-  ∙ among-first placeIn nameIn sameName n 0 (length s) (inside g (placed s)) (all-rising s g) ∙ ap (λ (k : ℕ). ltb k (length s)) first ∙ lt-ltb p (length s) l),
+      (ap (isAmong sameName n) (group-is s g h) ∙ among-once sameName sameName-means n (keys placeIn nameIn (inside g (placed s))) []
+      ∙ among-first placeIn nameIn sameName n 0 (length s) (inside g (placed s)) (all-rising s g) ∙ ap (λ (k : ℕ). ltb k (length s)) first ∙ lt-ltb p (length s) l),
 )
   where
     first : firstOf placeIn nameIn sameName n (length s) (inside g (placed s)) ≡ p

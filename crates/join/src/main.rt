@@ -22,8 +22,10 @@ const MOST: usize = 65536;
 
 const BUDGET: Count = 1000000;
 
-// Room for every table of a file.
+// Room for every readable table.
 const TABLE: usize = table::HEADER
+    + 1
+    + 2 * bounds::MAX_ROLE_ROWS
     + 2 * bounds::MAX_ATOMS
     + (bounds::MAX_LEFT + 2) * bounds::MAX_LINES;
 

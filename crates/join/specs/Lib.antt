@@ -1,3 +1,4 @@
 pub mod Join
 pub mod JoinLaws
 pub mod Theorem
+pub mod Instances

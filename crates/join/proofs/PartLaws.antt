@@ -4,7 +4,7 @@
 --   names-given   == the writers are given what they ask for
 --   first-line    == number, count and place
 --   part-long, part-other, part-solved == a window of the text
---   window-less   == behind a full window there is less of the text
+--   window-less, window-in, window-end == window after window the text comes to its end
 --   prepared-long, prepared-refused, prepared-solved == what comes of a text is prepared
 use mathlib.Core.Path.{_≡_, refl, sym, ap, ap₂, subst, _∙_}
 use mathlib.Core.List.{List, [], _∷_, _++_, append-nil}
@@ -126,10 +126,22 @@ prepared-solved {s} {b} {n} {c} {p} a out x z e o l = joined-solved x z ∙ ap�
 ----------------------------------------------------------------------------------------------------
 -- Window after window
 
--- behind a window with a byte there is less of the text
-pub window-less : (from room n : ℕ) (text a : List ℕ) → Counts n a → take n a ≡ window from room text → 65536 ≤ n → length text - (from + n) < length text - from
-window-less from room n text a h e l =
-    let d : n ≡ length (window from room text) = h .1 ∙ ap length e in
-    let t : length (window from room text) ≡ _ = length-take room (drop from text) in
-    let f : length (drop from text) ≡ length text - from = length-drop from text in
-    omega arith
+module _ (from room n : ℕ) (text a : List ℕ) (h : Counts n a) (e : take n a ≡ window from room text) where
+  -- how many bytes a window has
+  window-size : (n ≤ room) × (n ≤ length text - from) × (n < room → n ≡ length text - from)
+  window-size =
+      let d : n ≡ length (window from room text) = h .1 ∙ ap length e in
+      let t : length (window from room text) ≡ _ = length-take room (drop from text) in
+      let f : length (drop from text) ≡ length text - from = length-drop from text in
+      (omega arith, omega arith, λ l. omega arith)
+
+  -- behind a window with a byte there is less of the text
+  pub window-less : 0 < n → length text - (from + n) < length text - from
+  window-less l = let w = window-size in let z : n ≤ length text - from = w .1 in omega arith
+
+  pub window-in : from ≤ length text → from + n ≤ length text
+  window-in l = let w = window-size in let z : n ≤ length text - from = w .1 in omega arith
+
+  -- a window that is not full ends the text
+  pub window-end : from ≤ length text → n < room → from + n ≡ length text
+  window-end l k = let w = window-size in let z : n ≡ length text - from = w .2 k in omega arith

@@ -6,15 +6,16 @@
 --   joined-zero     == under 0 a table was made, and it is the one that was solved
 --   solved-facts    == that table is readable and has the names of the text
 --   join-long, join-short == the text of a long file, and of one that is read
---   longer-file     == "a longer one is refused": whatever stands behind the first 65,537 bytes
+--   first-bytes     == THE FIRST 65,537 BYTES OF A FILE HAVE THE TEXT OF THE WHOLE FILE
 use mathlib.Core.Path.{_≡_, refl, sym, ap, ap₂, subst, _∙_}
 use mathlib.Core.Bool.{Bool, true, false}
 use mathlib.Core.List.{List, [], _∷_, _++_}
 use Prim.Native.Nat.{ℕ, zero, suc, _+_, _*_, _≤_, _<_}
 use native.Mathlib.Omega.{arith}
-use native.Mathlib.Decide.{ℕ-discrete, decLt}
+use native.Mathlib.Decide.{ℕ-discrete, decLe}
 use lib.Dec.{T, eqb, ltb}
 use lib.ListN.{length, take, drop, length-append, length-take}
+use lib.Seq.{take-all}
 use borrow.Author.Tests.{eq-eqb, ne-eqb, lt-ltb, le-ltb}
 use Rattle.el.specs.Table.{Table}
 use Rattle.answer.specs.declared.Handed.{Handed}
@@ -92,5 +93,10 @@ pub join-short : (s : List ℕ) (j : Join) → length s ≤ joinMost → joined 
 unfolding joinText
 join-short s j h e = rw (le-ltb joinMost (length s) h, joinText) (ap (fileText s) e)
 
-pub longer-file : (s : List ℕ) → joinMost < length s → joinText (take (joinMost + 1) s) ≡ joinText s
-longer-file s h = join-long (take (joinMost + 1) s) (let n : length (take (joinMost + 1) s) ≡ _ = length-take (joinMost + 1) s in omega arith) ∙ sym (join-long s h)
+-- "a longer one is refused": nothing behind them is looked at
+pub first-bytes : (s : List ℕ) → joinText (take (joinMost + 1) s) ≡ joinText s
+first-bytes s = go (decLe (length s) joinMost)
+  where
+    go : Dec (length s ≤ joinMost) → joinText (take (joinMost + 1) s) ≡ joinText s
+    go (yes h) = ap joinText (take-all (joinMost + 1) s (omega arith))
+    go (no h) = join-long (take (joinMost + 1) s) (let n : length (take (joinMost + 1) s) ≡ _ = length-take (joinMost + 1) s in omega arith) ∙ sym (join-long s (omega arith))

@@ -3,6 +3,7 @@
 --   table-room    == there is room for every readable table: the answer 17 does not come
 --   join-refused  == A FILE THAT IS REFUSED: number, count and place
 --   join-found    == A FILE THAT IS SOLVED: the sets of the first assignment that solves its table, with its own names
+--   join-spelt    == in its lines a fresh variable is spelt out by its own atoms, to the end
 --   join-none     == A FILE THAT CANNOT BE JOINED
 --   join-budget   == a file whose walk is over the budget
 --   join-holds    == under 0 the substitution that the written sets induce makes all axioms of the file hold
@@ -18,7 +19,8 @@ use lib.Seq.{take-append-seam}
 use lib.Pow.{pow-mono}
 use Rattle.bounds.specs.Bounds.{maxAtoms, maxVariables, maxRoleRows, setBytes, setNumbers}
 use Rattle.el.specs.TestLaws.{everyOf-at}
-use Rattle.el.specs.Table.{Table, atoms, roleOrder}
+use Rattle.el.specs.Table.{Table, atoms, declared, roleOrder}
+use Rattle.el.specs.ReachLaws.{acyclic-means}
 use Rattle.el.specs.RoleLaws.{roleOrder-refl, roleOrder-trans}
 use Rattle.el.specs.Assignment.{Assignment, IsAssignment, setOf, Solves, induced}
 use Rattle.el.specs.Locality.{Solvable}
@@ -47,8 +49,8 @@ use Rattle.owl.specs.MentionLaws.{names-said}
 use Rattle.owl.specs.UndeclaredLaws.{undeclared-means}
 use Rattle.owl_answer.specs.Owl.{Owl, owl, InBounds, made, OwlAt, said}
 use Rattle.owl_answer.specs.OwlLaws.{in-fits}
-use Rattle.spell.specs.Spelling.{namedLines}
-use Rattle.spell.specs.SpellingLaws.{lines-sets}
+use Rattle.spell.specs.Spelling.{enclosed, atomTexts, speltTo, namedLines}
+use Rattle.spell.specs.SpellingLaws.{lines-sets, spelt-equation}
 use Rattle.join.specs.Join.{joinMost, joinBudget, joinTable, joinOutput, numbersLine, Join, joinAs, answeredJoin, solvedJoin, joined, fileText, joinText}
 use Rattle.join.specs.JoinLaws.{joined-refused, joined-solved, join-short}
 
@@ -115,6 +117,9 @@ module _ (s : List ℕ) (f : File) (short : length s ≤ joinMost) (says : Says 
   unfolding IsTable flat.flatTable flat.tableOf
   is-table = (1, refl, in-fits t refl (flat-declared (roleOrder t) (roleOrder-refl t) (roleOrder-trans t) f all-known) within)
 
+  all-declared : T (declared t)
+  all-declared = flat-declared (roleOrder t) (roleOrder-refl t) (roleOrder-trans t) f all-known
+
   room : length bytes ≤ length joinTable
   room = table-room bytes (subst (λ (r : Reading). T (isReadable r)) (sym (table-read bytes t is-table .1)) tt)
 
@@ -142,7 +147,7 @@ module _ (s : List ℕ) (f : File) (short : length s ≤ joinMost) (says : Says 
       text-is (answered (Solved (N t)) (written a joinOutput)) (demand-2-solved bytes t is-table joinBudget joinOutput enough l a first)
       ∙ ap₂ (λ (d : Names) (u : Table). numbersLine 0 (N t) 0 ++ namedLines d u (setIn (written a joinOutput))) (names-said s f says) (sym (table-is bytes t is-table))
       ∙ ap (λ (x : List ℕ). numbersLine 0 (N t) 0 ++ x)
-      (lines-sets (namesOf (f .items)) t (flat-declared (roleOrder t) (roleOrder-refl t) (roleOrder-trans t) f all-known) (setIn (written a joinOutput)) (setOf a)
+      (lines-sets (namesOf (f .items)) t all-declared (setIn (written a joinOutput)) (setOf a)
       (λ x h. set-back a joinOutput x (let e : length a ≡ t .variables = first .0 .0 in omega arith) (set-number x (let e : length a ≡ t .variables = first .0 .0 in omega arith)))
       (length (namesOf (f .items) .opens)) (omega arith))
     where
@@ -151,6 +156,12 @@ module _ (s : List ℕ) (f : File) (short : length s ≤ joinMost) (says : Says 
           let few : 2 ^ atoms t ≤ 2 ^ maxAtoms = pow-mono few-atoms in
           let one : getD a x 0 < 2 ^ atoms t = ltb→lt (getD a x 0) (2 ^ atoms t) (everyOf-at (λ s. ltb s (2 ^ atoms t)) a x 0 (first .0 .1) h) in
           omega arith
+
+  -- A FRESH VARIABLE IS SPELT OUT BY ITS OWN ATOMS, to the end: the sets that are written are acyclic
+  pub join-spelt : (a : Assignment) → FirstSolving t a → (x : ℕ) → x < t .variables
+      → speltTo (namesOf (f .items)) t (setOf a) (t .variables) x ≡ enclosed (atomTexts (namesOf (f .items)) t (speltTo (namesOf (f .items)) t (setOf a) (t .variables)) (setOf a x) (atoms t))
+  unfolding FirstSolving Solves
+  join-spelt a first x h = spelt-equation (namesOf (f .items)) t all-declared a (acyclic-means t all-declared a .1 (first .1 .0)) x h
 
   -- A FILE THAT CANNOT BE JOINED
   pub join-none : N t ≤ joinBudget → NoneSolves t → joinText s ≡ numbersLine 8 (N t) 0

@@ -2,6 +2,7 @@
 //
 // The text is written in windows, one after the other: a fresh variable is spelt out where it stands, so the text may be longer than any buffer.
 ghost use mathlib.Core.Path.{_≡_};
+ghost use mathlib.Core.Bool.{true};
 ghost use Prim.Native.Nat.{_*_, _≤_};
 ghost use lib.ListN.{length, take};
 ghost use Rattle.io.specs.Counts.{Counts};
@@ -105,39 +106,63 @@ fn part(
     q.at
 }
 
-// Writes the text, window after window.
-fn write_text(file: &[u8], table: &[u8], output: &[u8], number: usize, count: usize, place: usize)
+// How many bytes of the text were written, and whether that is all of it.
+struct Written {
+    whole: bool,
+    bytes: usize,
+}
+
+// Writes the text, window after window, until it ends or a write fails.
+fn write_text(
+    file: &[u8],
+    table: &[u8],
+    output: &[u8],
+    number: usize,
+    count: usize,
+    place: usize,
+) -> Written
     requires { ⌜ Prepared (now file) (now table) (now output) number count place × (setBytes * maxVariables ≤ length (now output)) ⌝ }
+    ensures { λ r. ⌜ (r .whole ≡ true → r .bytes ≡ length (joinText (now (file .entry)))) ⌝ }
 {
     let mut buffer = [0u8; WINDOW];
     let mut from = 0;
     loop {
+        if LAST < from {
+            return Written {
+                whole: false,
+                bytes: from,
+            };
+        }
         let n = part(file, table, output, number, count, place, from, &mut buffer);
         if !io::write_all(STDOUT_FILENO, &buffer[..n]) {
-            return;
-        }
-        if n < WINDOW {
-            return;
-        }
-        if LAST < from {
-            return;
+            return Written {
+                whole: false,
+                bytes: from,
+            };
         }
         from += n;
+        if n < WINDOW {
+            return Written {
+                whole: true,
+                bytes: from,
+            };
+        }
     }
 }
 
 // Joins a file and writes its text.
-fn write_joined(file: &[u8]) {
+fn write_joined(file: &[u8]) -> Written
+    ensures { λ r. ⌜ (r .whole ≡ true → r .bytes ≡ length (joinText (now (file .entry)))) ⌝ }
+{
     let mut table = [0u8; TABLE];
     let mut output = [0u8; OUTPUT];
     if MOST < file.len() {
-        write_text(file, &table[..0], &output, 0, 0, 0);
-        return;
+        return write_text(file, &table[..0], &output, 0, 0, 0);
     }
     let made = owl_call::owl(file, &mut table);
     let length = made.count;
     if made.number != 0 {
-        write_text(
+        return write_text(
             file,
             &table[..0],
             &output,
@@ -145,7 +170,6 @@ fn write_joined(file: &[u8]) {
             length,
             made.place,
         );
-        return;
     }
     let a = makrothel::solve(&table[..length], BUDGET, &mut output);
     write_text(
@@ -155,7 +179,7 @@ fn write_joined(file: &[u8]) {
         a.number as usize,
         a.count as usize,
         a.place,
-    );
+    )
 }
 
 fn main() {

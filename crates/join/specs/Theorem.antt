@@ -1,6 +1,7 @@
 -- What the text says of a file.
 --
---   table-room    == there is room for every readable table: the answer 17 does not come
+--   table-room    == there is room for every readable table
+--   join-fits     == so the answer 17 does not come to a text that says a file
 --   join-refused  == A FILE THAT IS REFUSED: number, count and place
 --   join-found    == A FILE THAT IS SOLVED: the sets of the first assignment that solves its table, with its own names
 --   join-spelt    == in its lines a fresh variable is spelt out by its own atoms, to the end
@@ -44,10 +45,11 @@ use Rattle.owl.specs.Meaning.{fileHolds, Joinable}
 use Rattle.owl.specs.Flattening as flat
 use Rattle.owl.specs.FlatteningLaws.{flattening-to, flat-declared, file-solvable}
 use Rattle.owl.specs.Written.{Says}
+use Rattle.owl.specs.TextLaws.{accepted-means}
 use Rattle.owl.specs.Mention.{undeclared}
 use Rattle.owl.specs.MentionLaws.{names-said}
 use Rattle.owl.specs.UndeclaredLaws.{undeclared-means}
-use Rattle.owl_answer.specs.Owl.{Owl, owl, InBounds, made, OwlAt, said}
+use Rattle.owl_answer.specs.Owl.{Owl, owl, InBounds, over, short, made, OwlAt, spoiled, unknown, said}
 use Rattle.owl_answer.specs.OwlLaws.{in-fits}
 use Rattle.spell.specs.Spelling.{enclosed, atomTexts, speltTo, namedLines}
 use Rattle.spell.specs.SpellingLaws.{lines-sets, spelt-equation}
@@ -101,9 +103,32 @@ eight-none (Nothing n) z = (n, refl)
 eight-none (Budget b) z = absurd (let w : ⊥ = omega arith in w)
 
 ----------------------------------------------------------------------------------------------------
+-- The table of a file
+
+module _ (f : File) (known : T (allKnown f)) (within : InBounds (flat.flatTable f)) where
+  flat-known : T (declared (flat.flatTable f))
+  flat-known = flat-declared (roleOrder (flat.flatTable f)) (roleOrder-refl (flat.flatTable f)) (roleOrder-trans (flat.flatTable f)) f known
+
+  flat-table : IsTable (bytesOf 1 (flat.flatTable f)) (flat.flatTable f)
+  unfolding IsTable flat.flatTable flat.tableOf
+  flat-table = (1, refl, in-fits (flat.flatTable f) refl flat-known within)
+
+  flat-room : length (bytesOf 1 (flat.flatTable f)) ≤ length joinTable
+  flat-room =
+      table-room (bytesOf 1 (flat.flatTable f)) (subst (λ (r : Reading). T (isReadable r)) (sym (table-read (bytesOf 1 (flat.flatTable f)) (flat.flatTable f) flat-table .1)) tt)
+
+-- THERE IS ROOM FOR THE TABLE OF EVERY FILE
+pub join-fits : {s : List ℕ} {a : Owl} (f : File) → Says s f → OwlAt s joinTable a → a .number ≡ 17 → ⊥
+join-fits {s} f h (spoiled x) z = x (accepted-means s .1 (f, h))
+join-fits f h (unknown e k) z = let w : ⊥ = omega arith in w
+join-fits f h (said g k e (over x)) z = let w : ⊥ = omega arith in w
+join-fits {s} f h (said g k e (short x l)) z = let r = flat-room g (undeclared-means s g k .0 e) x in let w : ⊥ = omega arith in w
+join-fits f h (said g k e (made x l)) z = let w : ⊥ = omega arith in w
+
+----------------------------------------------------------------------------------------------------
 -- A file that is read: the text says it, its names are declared, and its table passes no bound
 
-module _ (s : List ℕ) (f : File) (short : length s ≤ joinMost) (says : Says s f) (known : undeclared s ≡ length s) (within : InBounds (flat.flatTable f)) where
+module _ (s : List ℕ) (f : File) (small : length s ≤ joinMost) (says : Says s f) (known : undeclared s ≡ length s) (within : InBounds (flat.flatTable f)) where
   abbrev t : Table
   t = flat.flatTable f
 
@@ -114,17 +139,13 @@ module _ (s : List ℕ) (f : File) (short : length s ≤ joinMost) (says : Says 
   all-known = undeclared-means s f says .0 known
 
   is-table : IsTable bytes t
-  unfolding IsTable flat.flatTable flat.tableOf
-  is-table = (1, refl, in-fits t refl (flat-declared (roleOrder t) (roleOrder-refl t) (roleOrder-trans t) f all-known) within)
+  is-table = flat-table f all-known within
 
   all-declared : T (declared t)
-  all-declared = flat-declared (roleOrder t) (roleOrder-refl t) (roleOrder-trans t) f all-known
-
-  room : length bytes ≤ length joinTable
-  room = table-room bytes (subst (λ (r : Reading). T (isReadable r)) (sym (table-read bytes t is-table .1)) tt)
+  all-declared = flat-known f all-known within
 
   answer-is : OwlAt s joinTable (owl 0 (length bytes) 0 (bytes ++ drop (length bytes) joinTable))
-  answer-is = said f says known (made within room)
+  answer-is = said f says known (made within (flat-room f all-known within))
 
   joined-is : joined s ≡ solvedJoin bytes
   joined-is = joined-solved answer-is refl ∙ ap solvedJoin (take-append-seam bytes (drop (length bytes) joinTable))
@@ -134,7 +155,7 @@ module _ (s : List ℕ) (f : File) (short : length s ≤ joinMost) (says : Says 
   enough = let v : t .variables ≤ maxVariables = within .counts .few-variables in omega arith
 
   text-is : (a : Answered) → answer bytes joinBudget joinOutput ≡ a → joinText s ≡ fileText s (answeredJoin bytes a)
-  text-is a e = join-short s (answeredJoin bytes a) short (joined-is ∙ ap (answeredJoin bytes) e)
+  text-is a e = join-short s (answeredJoin bytes a) small (joined-is ∙ ap (answeredJoin bytes) e)
 
   few-atoms : atoms t ≤ maxAtoms
   unfolding countsOf atoms

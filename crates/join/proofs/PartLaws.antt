@@ -6,17 +6,16 @@
 --   part-long, part-other, part-solved == a window of the text
 --   window-less, window-in, window-end == window after window the text comes to its end
 --   prepared-long, prepared-refused, prepared-solved == what comes of a text is prepared
-use mathlib.Core.Path.{_≡_, refl, sym, ap, ap₂, subst, _∙_}
-use mathlib.Core.List.{List, [], _∷_, _++_, append-nil}
+use mathlib.Core.Path.{_≡_, refl, sym, ap, ap₂, _∙_}
+use mathlib.Core.List.{List, [], _++_, append-nil}
 use Prim.Native.Nat.{ℕ, zero, suc, _+_, _*_, _-_, _≤_, _<_}
 use native.Mathlib.Omega.{arith}
-use lib.Dec.{T}
 use lib.ListN.{length, take, drop, length-take, length-drop}
 use Rattle.io.specs.Counts.{Counts}
 use Rattle.bounds.specs.Bounds.{maxAtoms, maxVariables, maxRoles, setBytes}
 use Rattle.answer.specs.declared.Handed.{Handed}
 use Rattle.answer.specs.Handed.{handed}
-use Rattle.table.specs.Reading.{reading, tableOf, isReadable, headerOf}
+use Rattle.table.specs.Reading.{tableOf}
 use Rattle.table.specs.LayoutLaws.{layout}
 use Rattle.output.specs.Written.{setIn}
 use Rattle.text.specs.Append.{Appended}
@@ -27,14 +26,14 @@ use Rattle.text.specs.Room.{Numbers}
 use Rattle.text.specs.FitsLaws.{read-fits}
 use Rattle.makrothel.specs.Solve.{answer}
 use Rattle.owl.specs.Mention.{namesIn}
-use Rattle.owl_answer.specs.Owl.{Owl, owl, OwlAt}
+use Rattle.owl_answer.specs.Owl.{owl, OwlAt}
 use Rattle.spell.specs.Window.{Shown, window}
-use Rattle.spell.specs.WindowLaws.{shown-as, shown-then, shown-window}
+use Rattle.spell.specs.WindowLaws.{shown-then, shown-window}
 use Rattle.spell.specs.Spelling.{namedLines}
 use Rattle.spell.specs.Given.{Given}
 use Rattle.owl_span.specs.Span.{groupNames, SpansDone}
 use Rattle.owl_span.specs.SpanLaws.{spans-of}
-use Rattle.join.specs.Join.{joinMost, joinBudget, joinTable, joinOutput, longText, numbersLine, Join, joinAs, solvedJoin, joined, fileText, joinText, Solved, Prepared}
+use Rattle.join.specs.Join.{joinMost, joinBudget, joinTable, joinOutput, longText, numbersLine, joinAs, fileText, joinText, Solved, Prepared}
 use Rattle.join.specs.JoinLaws.{joined-refused, joined-solved, solved-facts, join-long, join-short}
 
 ----------------------------------------------------------------------------------------------------

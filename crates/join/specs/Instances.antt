@@ -18,7 +18,7 @@ use Rattle.el.specs.Table.{Table, rowAt, atoms, declared, roleOrder}
 use Rattle.el.specs.RoleLaws.{roleOrder-refl, roleOrder-trans}
 use Rattle.el.specs.Meaning.{holds}
 use Rattle.el.specs.Assignment.{Assignment, setOf, depends, path, reaches, acyclic, atomUnder, conjoin, setUnder, inducedTo, induced, Solves, solves}
-use Rattle.el.specs.Walk.{chosen, lineVariables, settled, ready, fails, dead, full, ends, inTurn, treeOf, nodes, upToFirst, firstOf, examined, count, Outcome, solved, outcome}
+use Rattle.el.specs.Walk.{chosen, lineVariables, settled, ready, fails, dead, full, ends, inTurn, treeOf, nodes, upToFirst, firstOf, examined, count, solved, outcome}
 use Rattle.el.specs.OutcomeLaws.{outcome-says}
 use Rattle.el.specs.First.{OutcomeSays}
 use Rattle.el.specs.LocalityLaws.{solves-means}

@@ -7,32 +7,29 @@
 --   solved-facts    == that table is readable and has the names of the text
 --   join-long, join-short == the text of a long file, and of one that is read
 --   first-bytes     == THE FIRST 65,537 BYTES OF A FILE HAVE THE TEXT OF THE WHOLE FILE
-use mathlib.Core.Path.{_≡_, refl, sym, ap, ap₂, subst, _∙_}
+use mathlib.Core.Path.{_≡_, sym, ap, subst, _∙_}
 use mathlib.Core.Bool.{Bool, true, false}
-use mathlib.Core.List.{List, [], _∷_, _++_}
-use Prim.Native.Nat.{ℕ, zero, suc, _+_, _*_, _≤_, _<_}
+use mathlib.Core.List.{List, [], _++_}
+use Prim.Native.Nat.{ℕ, zero, _+_, _≤_, _<_}
 use native.Mathlib.Omega.{arith}
 use native.Mathlib.Decide.{ℕ-discrete, decLe}
-use lib.Dec.{T, eqb, ltb}
+use lib.Dec.{T, eqb}
 use lib.ListN.{length, take, drop, length-append, length-take}
 use lib.Seq.{take-all}
 use borrow.Author.Tests.{eq-eqb, ne-eqb, lt-ltb, le-ltb}
 use Rattle.el.specs.Table.{Table}
-use Rattle.answer.specs.declared.Handed.{Handed}
-use Rattle.answer.specs.Handed.{handed}
-use Rattle.table.specs.Reading.{Reading, readable, reading, theTable, tableOf, isReadable}
+use Rattle.table.specs.Reading.{Reading, tableOf, isReadable}
 use Rattle.table.specs.Bytes.{bytesOf, IsTable}
 use Rattle.table.specs.BytesLaws.{table-read}
-use Rattle.makrothel.specs.Solve.{Answered, answer}
 use Rattle.makrothel.specs.Demand2.{table-is}
 use Rattle.owl.specs.Tree.{File}
 use Rattle.owl.specs.Naming.{Names, namesOf}
 use Rattle.owl.specs.Flattening as flat
 use Rattle.owl.specs.Mention.{namesIn}
 use Rattle.owl.specs.MentionLaws.{names-said}
-use Rattle.owl_answer.specs.Owl.{Owl, owl, over, short, made, OwlAt, spoiled, unknown, said, Made}
+use Rattle.owl_answer.specs.Owl.{Owl, over, short, made, OwlAt, spoiled, unknown, said}
 use Rattle.owl_answer.specs.OwlLaws.{owl-some, owl-unique, owl-table}
-use Rattle.join.specs.Join.{joinMost, joinBudget, joinTable, joinOutput, longText, owlOf, Join, joinAs, answeredJoin, solvedJoin, joinedBy, joined, fileText, joinText, Solved, Prepared}
+use Rattle.join.specs.Join.{joinMost, joinTable, joinOutput, longText, owlOf, Join, joinAs, solvedJoin, joinedBy, joined, fileText, joinText, Solved}
 
 pub owl-of : {s : List ℕ} {a : Owl} → OwlAt s joinTable a → owlOf s ≡ a
 unfolding owlOf

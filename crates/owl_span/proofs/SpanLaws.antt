@@ -13,8 +13,8 @@ use native.Mathlib.Omega.{arith}
 use native.Mathlib.Decide.{ℕ-discrete, decLt}
 use lib.Dec.{T, eqb, eqb→eq, ltb}
 use lib.ListN.{length, getD, take, drop, set, length-set}
-use lib.Seq.{getD-set-same, getD-set-other, getD-take, length-take-le}
-use borrow.Author.Tests.{eq-eqb, ne-eqb, lt-ltb, le-ltb, ltb-true}
+use lib.Seq.{getD-set-same, getD-set-other}
+use borrow.Author.Tests.{eq-eqb, ne-eqb, lt-ltb, le-ltb}
 use Rattle.el.specs.Test.{anyOf}
 use Rattle.el.specs.TestLaws.{is-true, true-is, and-left, and-right}
 use Rattle.owl.specs.Once.{isAmong, place, once}
@@ -25,8 +25,8 @@ use Rattle.owl.specs.Naming.{sameName}
 use Rattle.owl.specs.NamingLaws.{sameName-refl, sameName-means}
 use Rattle.owl.specs.Token.{placeAt, kindAt, endAt}
 use Rattle.owl.specs.Grammar.{isName}
-use Rattle.owl.specs.Mention.{sortAfter, nameBy, nameAt, Placed, mentioned, placedAt, placed, namesIn, firstPlace}
-use Rattle.owl_name.specs.Declared.{restOf, declares, declaredAt, groupSort, groupTakes, inGroup, inside, placeIn, nameIn, adding, different, oneIf}
+use Rattle.owl.specs.Mention.{sortAfter, nameBy, nameAt, Placed, mentioned, placedAt, placed, namesIn}
+use Rattle.owl_name.specs.Declared.{restOf, declaredAt, groupSort, groupTakes, inGroup, inside, placeIn, nameIn, adding, different, oneIf}
 use Rattle.owl_name.specs.Ordered.{Rising, before, keys, firstOf, differentBefore}
 use Rattle.owl_name.proofs.OrderedLaws.{place-count, among-first, before-own}
 use Rattle.owl_name.proofs.RestLaws.{AtToken, rest-turn, token-name, token-order}
@@ -35,7 +35,7 @@ use Rattle.owl_name.proofs.AddLaws.{own-name, in-does}
 use Rattle.owl_name.proofs.CountLaws.{Counting, counting-start, counting-turn, counting-end, in-text}
 use Rattle.owl_name.proofs.NumberLaws.{constants-count, opens-count, roles-count}
 use Rattle.spell.specs.Spelling.{nameText, nameOf}
-use Rattle.spell.specs.Given.{spanFrom, spanTo, spanText, Inside, SpansOf}
+use Rattle.spell.specs.Given.{spanFrom, spanTo}
 use Rattle.owl_span.specs.Span.{groupNames, stored, SpanAt, SpansDone}
 
 ----------------------------------------------------------------------------------------------------

@@ -13,7 +13,7 @@
 use mathlib.Core.Path.{_≡_, refl, sym, ap, ap₂, subst, _∙_}
 use mathlib.Core.Bool.{Bool, true, false, not, _||_, cond, or-true, or-false}
 use mathlib.Core.List.{List, [], _∷_, _++_, append-assoc, append-nil, map, map-append}
-use Prim.Native.Nat.{ℕ, zero, suc, _+_, _*_, _-_, _/_, _≤_, _<_}
+use Prim.Native.Nat.{ℕ, suc, _+_, _*_, _-_, _/_, _≤_, _<_}
 use native.Mathlib.Omega.{arith}
 use native.Mathlib.Numerals.{add-one}
 use lib.Dec.{T, ltb}
@@ -34,7 +34,6 @@ use Rattle.text.specs.Listing.{ampersand, atomsIn}
 use Rattle.text.proofs.Laws.{joined-more}
 use Rattle.owl.specs.Tree.{Name}
 use Rattle.owl.specs.Naming.{Names, thingBytes}
-use Rattle.owl.specs.Mention.{namesIn}
 use Rattle.owl.specs.Token.{someValuesWord}
 use Rattle.spell.specs.Window.{Shown}
 use Rattle.spell.specs.WindowLaws.{shown-as, shown-none, shown-then}

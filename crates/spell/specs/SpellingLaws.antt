@@ -13,17 +13,17 @@ use native.Mathlib.Omega.{arith}
 use lib.Dec.{T, eqb, eqb→eq, eqb-refl, ltb, ltb→lt}
 use lib.ListN.{length}
 use borrow.Author.Tests.{ltb-false}
-use Rattle.el.specs.Test.{bit, everyOf}
+use Rattle.el.specs.Test.{bit}
 use Rattle.el.specs.TestLaws.{true-is, and-make, and-right, everyOf-at, anyBelow-hit}
-use Rattle.el.specs.Table.{Filler, topF, constantF, variableF, Row, Table, rowAt, atoms, fillerDeclared, rowDeclared, declared}
+use Rattle.el.specs.Table.{Filler, topF, constantF, variableF, Table, rowAt, atoms, fillerDeclared, rowDeclared, declared}
 use Rattle.el.specs.TableLaws.{rows-declared}
 use Rattle.el.specs.Assignment.{Assignment, setOf, isVariable, depends, acyclic}
 use Rattle.el.specs.Rank.{rank}
 use Rattle.el.specs.InducedLaws.{rank-falls, rank-below}
 use Rattle.text.specs.Text.{newline}
 use Rattle.text.specs.Listing.{atomsIn}
-use Rattle.owl.specs.Naming.{Names, thingBytes}
-use Rattle.spell.specs.Spelling.{nameOf, someText, joinedText, enclosed, variableText, fillerText, rowText, atomText, atomTexts, speltTo, setText, variableLine, variableLines, namedLines}
+use Rattle.owl.specs.Naming.{Names}
+use Rattle.spell.specs.Spelling.{nameOf, someText, joinedText, enclosed, variableText, fillerText, rowText, atomText, atomTexts, speltTo, setText, variableLine, variableLines}
 
 module _ (d : Names) (t : Table) where
   pub filler-same : (p q : ℕ → List ℕ) (f : Filler) → ((y : ℕ) → T (isVariable y f) → p y ≡ q y) → fillerText d t p f ≡ fillerText d t q f

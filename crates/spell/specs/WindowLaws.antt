@@ -14,9 +14,9 @@ use mathlib.Core.Path.{_≡_, refl, sym, ap, ap₂, subst, _∙_}
 use mathlib.Core.List.{List, [], _∷_, _++_}
 use Prim.Native.Nat.{ℕ, zero, suc, _+_, _-_, _≤_, _<_}
 use native.Mathlib.Omega.{arith}
-use native.Mathlib.Decide.{decLt, decLe}
+use native.Mathlib.Decide.{decLt}
 use lib.ListN.{length, take, drop, length-append, length-take, length-drop, drop-of-length-le}
-use lib.Seq.{drop-nil, take-all, take-add, drop-append-le, drop-append-add}
+use lib.Seq.{drop-nil, take-all, take-add}
 use Rattle.text.specs.Append.{fitting, put, Appended}
 use Rattle.text.specs.AppendLaws.{appended-length, appended-as, appended-none, appended-full, appended-then, appended-unique}
 use Rattle.spell.specs.Window.{Shown, window}

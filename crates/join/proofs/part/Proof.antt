@@ -1,7 +1,6 @@
 -- `join::part` meets its contract. A long file, a refusal or another answer than "solved", and a solved file.
 use borrow.Author.Needs.{needs}
 use mathlib.Core.Path.{refl}
-use native.Mathlib.Omega.{arith}
 use Rattle.join.specs.Join.{longText}
 use Rattle.join.proofs.PartLaws.{part-long, part-other, part-solved, solved-given}
 use Rattle.join.proofs.part.Statement.{statement}

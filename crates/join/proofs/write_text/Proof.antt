@@ -1,6 +1,6 @@
 -- `join::write_text` meets its contract. The invariant: the buffer keeps its length, and the text up to `from` was passed. The measure is what is left of the text.
 use borrow.Author.Needs.{needs}
-use mathlib.Core.Path.{_≡_, sym, subst, _∙_}
+use mathlib.Core.Path.{_≡_, sym, subst}
 use Prim.Native.Nat.{_-_, _≤_}
 use native.Mathlib.Omega.{arith}
 use lib.Dec.{T}

@@ -1,7 +1,6 @@
 -- The four writers that call each other meet their contracts. The measure is four times the depth that is left, with one, two and three more on the way from a
 -- variable to its set. The loop goes over the atoms of a set: those with a number below i are written.
 use mathlib.Core.Path.{_≡_, sym, _∙_}
-use mathlib.Core.Bool.{Bool}
 use Prim.Native.Nat.{ℕ, _+_, _*_, _-_, _≤_, _<_}
 use native.Mathlib.Omega.{arith}
 use borrow.Author.Needs.{needs}

@@ -33,7 +33,8 @@ use Rattle.spell.specs.Spelling.{namedLines}
 use Rattle.spell.specs.Given.{Given}
 use Rattle.owl_span.specs.Span.{groupNames, SpansDone}
 use Rattle.owl_span.specs.SpanLaws.{spans-of}
-use Rattle.join.specs.Join.{joinMost, joinBudget, joinTable, joinOutput, longText, numbersLine, joinAs, fileText, joinText, Solved, Prepared}
+use Rattle.join.specs.Join.{joinMost, joinBudget, joinTable, joinOutput, longText, numbersLine, joinAs, fileText, joinText}
+use Rattle.join.specs.Part.{Prepared, Solved}
 use Rattle.join.specs.JoinLaws.{joined-refused, joined-solved, solved-facts, join-long, join-short}
 
 ----------------------------------------------------------------------------------------------------

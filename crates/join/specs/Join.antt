@@ -7,22 +7,20 @@
 --   owlOf s                 == the answer to the text s: there is one, and only one (`owl-some`, `owl-unique`)
 --   Join                    == number, count and place; the table that was solved, and the output
 --   joinAs n c p table output == these as one
+--   answeredJoin table a    == the table, and the solver's answer a to it
 --   solvedJoin table        == a table, solved
 --   joinedBy a              == what comes of the answer a to a text: its table is solved, or it is refused
 --   joined s                == what comes of the text s
 --   fileText s j            == its text: number, count and place, and under 0 a line for each named variable
 --   joinText s              == THE TEXT that is written for the file s
---   Solved s table          == the table is readable, and has the names of the text s
---   Prepared s table output n c p == these are what comes of the text s, where it is read
-use mathlib.Core.Path.{_≡_}
 use mathlib.Core.Bool.{true, false}
 use mathlib.Core.List.{List, [], _∷_, _++_}
-use Prim.Native.Nat.{ℕ, _+_, _*_, _≤_}
-use lib.Dec.{T, eqb, ltb}
+use Prim.Native.Nat.{ℕ, _+_, _*_}
+use lib.Dec.{eqb, ltb}
 use lib.ListN.{length, take, replicate}
 use Rattle.bounds.specs.Bounds.{maxAtoms, maxVariables, maxLines, maxRoleRows, setBytes}
 use Rattle.answer.specs.Handed.{handed}
-use Rattle.table.specs.Reading.{headerLength, reading, tableOf, isReadable}
+use Rattle.table.specs.Reading.{headerLength, tableOf}
 use Rattle.table.specs.Bytes.{longestLine}
 use Rattle.output.specs.Written.{setIn}
 use Rattle.text.specs.Listing.{underNumber}
@@ -48,14 +46,13 @@ joinTable = replicate (headerLength + 1 + 2 * maxRoleRows + 2 * maxAtoms + longe
 abbrev pub joinOutput : List ℕ
 joinOutput = replicate (setBytes * maxVariables) 0
 
--- "a longer one is refused in plain words, with nothing else said": `The file has more than 65536 bytes. That is the most that is read.`
+-- "a longer one is refused in plain words, with nothing else said": `The file is too long: it may have 65536 bytes at most.`
 unfoldable pub longText : List ℕ
 longText =
-    0x54 ∷ 0x68 ∷ 0x65 ∷ 0x20 ∷ 0x66 ∷ 0x69 ∷ 0x6C ∷ 0x65 ∷ 0x20 ∷ 0x68 ∷ 0x61 ∷ 0x73 ∷ 0x20 ∷ 0x6D ∷ 0x6F ∷ 0x72
-    ∷ 0x65 ∷ 0x20 ∷ 0x74 ∷ 0x68 ∷ 0x61 ∷ 0x6E ∷ 0x20 ∷ 0x36 ∷ 0x35 ∷ 0x35 ∷ 0x33 ∷ 0x36 ∷ 0x20 ∷ 0x62 ∷ 0x79 ∷ 0x74
-    ∷ 0x65 ∷ 0x73 ∷ 0x2E ∷ 0x20 ∷ 0x54 ∷ 0x68 ∷ 0x61 ∷ 0x74 ∷ 0x20 ∷ 0x69 ∷ 0x73 ∷ 0x20 ∷ 0x74 ∷ 0x68 ∷ 0x65 ∷ 0x20
-    ∷ 0x6D ∷ 0x6F ∷ 0x73 ∷ 0x74 ∷ 0x20 ∷ 0x74 ∷ 0x68 ∷ 0x61 ∷ 0x74 ∷ 0x20 ∷ 0x69 ∷ 0x73 ∷ 0x20 ∷ 0x72 ∷ 0x65 ∷ 0x61
-    ∷ 0x64 ∷ 0x2E ∷ 0x0A ∷ []
+    0x54 ∷ 0x68 ∷ 0x65 ∷ 0x20 ∷ 0x66 ∷ 0x69 ∷ 0x6C ∷ 0x65 ∷ 0x20 ∷ 0x69 ∷ 0x73 ∷ 0x20 ∷ 0x74 ∷ 0x6F ∷ 0x6F ∷ 0x20
+    ∷ 0x6C ∷ 0x6F ∷ 0x6E ∷ 0x67 ∷ 0x3A ∷ 0x20 ∷ 0x69 ∷ 0x74 ∷ 0x20 ∷ 0x6D ∷ 0x61 ∷ 0x79 ∷ 0x20 ∷ 0x68 ∷ 0x61 ∷ 0x76
+    ∷ 0x65 ∷ 0x20 ∷ 0x36 ∷ 0x35 ∷ 0x35 ∷ 0x33 ∷ 0x36 ∷ 0x20 ∷ 0x62 ∷ 0x79 ∷ 0x74 ∷ 0x65 ∷ 0x73 ∷ 0x20 ∷ 0x61 ∷ 0x74
+    ∷ 0x20 ∷ 0x6D ∷ 0x6F ∷ 0x73 ∷ 0x74 ∷ 0x2E ∷ 0x0A ∷ []
 
 -- "prints number, count and place as the listing does"
 abbrev pub numbersLine : ℕ → ℕ → ℕ → List ℕ
@@ -93,13 +90,3 @@ fileText s j = numbersLine (j .number) (j .count) (j .place) ++ underNumber (j .
 
 unfoldable pub joinText : List ℕ → List ℕ
 joinText s = elim (ltb joinMost (length s)) [ true ↦ longText | false ↦ fileText s (joined s) ]
-
-unfoldable pub Prepared : List ℕ → List ℕ → List ℕ → ℕ → ℕ → ℕ → Type 0
-Prepared s table output n c p = length s ≤ joinMost → joined s ≡ joinAs n c p table output
-
--- the table of a text that was solved, and its names, are within their bounds
-pub record Solved (s table : List ℕ) : Type 0 where
-  pub ok : T (isReadable (reading table))
-  pub constants-are : length (namesIn s .constants) ≡ tableOf table .constants
-  pub roles-are : length (namesIn s .roles) ≡ tableOf table .roles
-  pub opens-are : length (namesIn s .opens) ≤ tableOf table .variables

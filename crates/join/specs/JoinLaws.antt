@@ -29,7 +29,8 @@ use Rattle.owl.specs.Mention.{namesIn}
 use Rattle.owl.specs.MentionLaws.{names-said}
 use Rattle.owl_answer.specs.Owl.{Owl, over, short, made, OwlAt, spoiled, unknown, said}
 use Rattle.owl_answer.specs.OwlLaws.{owl-some, owl-unique, owl-table}
-use Rattle.join.specs.Join.{joinMost, joinTable, joinOutput, longText, owlOf, Join, joinAs, solvedJoin, joinedBy, joined, fileText, joinText, Solved}
+use Rattle.join.specs.Join.{joinMost, joinTable, joinOutput, longText, owlOf, Join, joinAs, solvedJoin, joinedBy, joined, fileText, joinText}
+use Rattle.join.specs.Part.{Solved}
 
 pub owl-of : {s : List ℕ} {a : Owl} → OwlAt s joinTable a → owlOf s ≡ a
 unfolding owlOf

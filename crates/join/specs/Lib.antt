@@ -1,4 +1,5 @@
 pub mod Join
+pub mod Part
 pub mod JoinLaws
 pub mod Theorem
 pub mod Unique

@@ -12,7 +12,8 @@ ghost use Rattle.output.specs.Written.{setIn};
 ghost use Rattle.owl.specs.Mention.{namesIn};
 ghost use Rattle.spell.specs.Window.{Shown, window};
 ghost use Rattle.spell.specs.Spelling.{namedLines};
-ghost use Rattle.join.specs.Join.{numbersLine, joinText, Prepared, Solved};
+ghost use Rattle.join.specs.Join.{numbersLine, joinText};
+ghost use Rattle.join.specs.Part.{Prepared, Solved};
 use bounds::Count;
 use libc::STDIN_FILENO;
 use libc::STDOUT_FILENO;
@@ -92,7 +93,7 @@ fn part(
     let start = Pen { skip: from, at: 0 };
     if MOST < file.len() {
         let p = spell::put(
-            b"The file has more than 65536 bytes. That is the most that is read.\n",
+            b"The file is too long: it may have 65536 bytes at most.\n",
             buffer,
             start,
         );

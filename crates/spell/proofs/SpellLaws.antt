@@ -37,9 +37,9 @@ use Rattle.owl.specs.Naming.{Names, thingBytes}
 use Rattle.owl.specs.Token.{someValuesWord}
 use Rattle.spell.specs.Window.{Shown}
 use Rattle.spell.specs.WindowLaws.{shown-as, shown-none, shown-then}
-use Rattle.spell.specs.Spelling.{nameOf, opening, closing, space, someText, joinedText, enclosed, variableText, fillerText, codeText, rowText, atomText, atomTexts, speltTo, setText, variableLine, variableLines}
+use Rattle.spell.specs.Spelling.{nameOf, opening, closing, space, someText, joinedText, enclosed, variableText, fillerText, rowText, atomText, atomTexts, speltTo, setText, variableLine, variableLines}
 use Rattle.spell.specs.Given.{spanText, SpansOf}
-use Rattle.spell.specs.Step.{headText, atomOf, SetBegun, kindFits, FillerFits}
+use Rattle.spell.specs.Step.{headText, codeText, atomOf, SetBegun, kindFits, FillerFits}
 use Rattle.spell.proofs.PutLaws.{name-is}
 
 ----------------------------------------------------------------------------------------------------

@@ -2,14 +2,15 @@
 --
 --   nameText n           == the bytes of the name n, as written
 --   nameOf l k           == those of name k of l; none where there is none
+--   opening, closing, space == `(`, `)` and a space
 --   someText role filler == a restriction, from the texts of its role and its filler
 --   joinedText ts        == the texts of atoms joined by ` & `, or `owl:Thing` for none
 --   enclosed ts          == the same, in parentheses where there are several
 --
 -- The names d of a file, its table t, and the set number of each variable are given:
 --
---   fillerText spelt f   == a filler, where `spelt` gives the texts of fresh variables
---   codeText spelt kind  == the same by the kind of its code; nothing for a code that is no filler
+--   variableText spelt x == variable x as a filler, where `spelt` gives the texts of fresh variables
+--   fillerText spelt f   == a filler
 --   rowText, atomText    == a restriction row; atom i
 --   atomTexts spelt s n  == the texts of the atoms of the set s with a number below n, in rising number
 --   speltTo n x          == variable x spelt out by its own atoms, and the fresh variables in these, n deep
@@ -23,8 +24,6 @@ use Prim.Native.Nat.{ℕ, zero, suc, _-_}
 use lib.Dec.{ltb}
 use lib.ListN.{length}
 use Rattle.el.specs.Table.{Filler, topF, constantF, variableF, Row, Table, rowAt, atoms}
-use Rattle.table.specs.declared.Kind.{Kind}
-use Rattle.table.specs.declared.Kind.the-variants.{Top, Constant, Restriction, Variable, Other}
 use Rattle.text.specs.Text.{newline, joined}
 use Rattle.text.specs.Listing.{ampersand, atomsIn}
 use Rattle.owl.specs.Tree.{Name, short, full}
@@ -75,14 +74,6 @@ module _ (d : Names) (t : Table) where
     fillerText topF = thingBytes
     fillerText (constantF k) = nameOf (d .constants) k
     fillerText (variableF x) = variableText x
-
-    -- the same by its code
-    unfoldable pub codeText : Kind → List ℕ
-    codeText Top = thingBytes
-    codeText (Constant k) = nameOf (d .constants) k
-    codeText (Restriction k) = []
-    codeText (Variable x) = variableText x
-    codeText Other = []
 
     unfoldable pub rowText : Row → List ℕ
     rowText row = someText (nameOf (d .roles) (row .role)) (fillerText (row .filler))

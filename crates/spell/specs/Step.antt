@@ -2,6 +2,7 @@
 --
 --   spelling s table output n == variables spelt out n deep, with the names of the text s
 --   headText role        == a restriction up to its filler
+--   codeText .. kind     == a filler by the kind of its code; nothing for a code that is no filler
 --   atomOf .. s i later  == atom i, where the set s has it, with ` & ` before it if it is a later one
 --   SetBegun             == the atoms of the set with a number below i are written, and `later` says if there were any
 --   kindFits v kind      == a variable by its code is one of v
@@ -19,17 +20,24 @@ use Rattle.table.specs.Reading.{tableOf, headerOf}
 use Rattle.output.specs.Written.{setIn}
 use Rattle.text.specs.Text.{joined, any}
 use Rattle.text.specs.Listing.{ampersand}
-use Rattle.owl.specs.Naming.{Names}
+use Rattle.owl.specs.Naming.{Names, thingBytes}
 use Rattle.owl.specs.Mention.{namesIn}
 use Rattle.owl.specs.Token.{someValuesWord}
 use Rattle.spell.specs.Window.{Shown}
-use Rattle.spell.specs.Spelling.{opening, space, atomText, atomTexts, speltTo}
+use Rattle.spell.specs.Spelling.{nameOf, opening, space, variableText, atomText, atomTexts, speltTo}
 
 abbrev pub spelling : List ℕ → List ℕ → List ℕ → ℕ → ℕ → List ℕ
 spelling s table output n = speltTo (namesIn s) (tableOf table) (setIn output) n
 
 unfoldable pub headText : List ℕ → List ℕ
 headText role = (someValuesWord ++ opening) ++ (role ++ space)
+
+unfoldable pub codeText : Names → Table → (ℕ → List ℕ) → Kind → List ℕ
+codeText d t spelt Top = thingBytes
+codeText d t spelt (Constant k) = nameOf (d .constants) k
+codeText d t spelt (Restriction k) = []
+codeText d t spelt (Variable x) = variableText d t spelt x
+codeText d t spelt Other = []
 
 module _ (d : Names) (t : Table) (spelt : ℕ → List ℕ) (s : ℕ) where
   unfoldable pub atomOf : ℕ → Bool → List ℕ

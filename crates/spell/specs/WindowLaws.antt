@@ -44,10 +44,6 @@ shown-past b skip at t h = record { written = appended-as (appended-none b at) (
 pub shown-from : {b a : List ℕ} {at r : ℕ} (skip : ℕ) (t : List ℕ) → skip ≤ length t → Appended b at (drop skip t) a r → Shown b skip at t a 0 r
 shown-from skip t h x = record { written = x; over = λ l. omega arith }
 
--- what is appended ends no earlier than it begins, and a full buffer stays
-ends-later : {b t a : List ℕ} {at r : ℕ} → Appended b at t a r → at ≤ r
-ends-later x = omega (arith, x .end)
-
 pub shown-then : {b s t m a : List ℕ} {skip at k q left r : ℕ} → Shown b skip at s m k q → Shown m k q t a left r → Shown b skip at (s ++ t) a left r
 shown-then {b} {s} {t} {m} {a} {skip} {at} {k} {q} {left} {r} h g = go (decLt q (length b))
   where

@@ -19,9 +19,9 @@ ghost use Rattle.text.specs.Append.{Appended};
 ghost use Rattle.text.specs.Listing.{atomsIn};
 ghost use Rattle.owl.specs.Mention.{namesIn};
 ghost use Rattle.spell.specs.Window.{Shown};
-ghost use Rattle.spell.specs.Spelling.{nameOf, variableText, codeText, setText, variableLine, namedLines};
+ghost use Rattle.spell.specs.Spelling.{nameOf, variableText, setText, variableLine, namedLines};
 ghost use Rattle.spell.specs.Given.{spanText, Inside, SpansOf, Given};
-ghost use Rattle.spell.specs.Step.{spelling, headText, atomOf, FillerFits};
+ghost use Rattle.spell.specs.Step.{spelling, headText, codeText, atomOf, FillerFits};
 use bounds::SetNumber;
 use table::Kind;
 

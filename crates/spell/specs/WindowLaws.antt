@@ -9,17 +9,18 @@
 --   shown-from    == a text of which a part is passed over
 --   shown-then    == a text and then another are written as one
 --   shown-window  == at the start of the buffer the window is written
---   window-next, window-last == the windows of a text one after the other make the text
+--   windows-make  == THE WINDOWS OF A TEXT ONE AFTER THE OTHER MAKE THE TEXT
 use mathlib.Core.Path.{_≡_, refl, sym, ap, ap₂, subst, _∙_}
 use mathlib.Core.List.{List, [], _∷_, _++_}
-use Prim.Native.Nat.{ℕ, zero, suc, _+_, _-_, _≤_, _<_}
+use Prim.Native.Nat.{ℕ, zero, suc, _+_, _*_, _-_, _≤_, _<_}
 use native.Mathlib.Omega.{arith}
+use native.Mathlib.Nat.{suc-mul}
 use native.Mathlib.Decide.{decLt}
-use lib.ListN.{length, take, drop, length-append, length-take, length-drop, drop-of-length-le}
+use lib.ListN.{length, take, drop, length-append, length-take, drop-of-length-le}
 use lib.Seq.{drop-nil, take-all, take-add}
 use Rattle.text.specs.Append.{fitting, put, Appended}
 use Rattle.text.specs.AppendLaws.{appended-length, appended-as, appended-none, appended-full, appended-then, appended-unique}
-use Rattle.spell.specs.Window.{Shown, window}
+use Rattle.spell.specs.Window.{Shown, window, windows}
 
 pub drop-both : (k : ℕ) (s t : List ℕ) → drop k (s ++ t) ≡ drop k s ++ drop (k - length s) t
 drop-both zero s t = ap (λ (n : ℕ). s ++ drop n t) (let z : 0 ≡ 0 - length s = omega arith in z)
@@ -87,11 +88,18 @@ shown-window {b} {t} {a} {skip} {left} {r} h =
     front [] y = refl
     front (n ∷ x) y = ap (λ (l : List ℕ). n ∷ l) (front x y)
 
--- a window that is full is followed by the next one
-pub window-next : (from room : ℕ) (text : List ℕ) → take (from + room) text ≡ take from text ++ window from room text
+-- a window is followed by the next one
+window-next : (from room : ℕ) (text : List ℕ) → take (from + room) text ≡ take from text ++ window from room text
 window-next from room text = take-add from room text
 
--- one that is not ends the text
-pub window-last : (from room : ℕ) (text : List ℕ) → length (window from room text) < room → take from text ++ window from room text ≡ text
-window-last from room text h =
-    sym (window-next from room text) ∙ take-all (from + room) text (let e : length (window from room text) ≡ _ = length-take room (drop from text) in let d = length-drop from text in omega arith)
+windows-take : (n room : ℕ) (text : List ℕ) → windows n room text ≡ take (n * room) text
+unfolding windows
+windows-take zero room text = ap (λ (k : ℕ). take k text) (let z : 0 ≡ 0 * room = omega arith in z)
+windows-take (suc n) room text =
+    ap (λ (l : List ℕ). l ++ window (n * room) room text) (windows-take n room text)
+    ∙ sym (window-next (n * room) room text)
+    ∙ ap (λ (k : ℕ). take k text) (let z : n * room + room ≡ suc n * room = omega (arith, suc-mul n room) in z)
+
+-- WINDOWS ONE AFTER THE OTHER MAKE THE TEXT
+pub windows-make : (n room : ℕ) (text : List ℕ) → length text ≤ n * room → windows n room text ≡ text
+windows-make n room text h = windows-take n room text ∙ take-all (n * room) text h

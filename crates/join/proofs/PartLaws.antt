@@ -12,7 +12,7 @@ use Prim.Native.Nat.{ℕ, zero, suc, _+_, _*_, _-_, _≤_, _<_}
 use native.Mathlib.Omega.{arith}
 use lib.ListN.{length, take, drop, length-take, length-drop}
 use Rattle.io.specs.Counts.{Counts}
-use Rattle.bounds.specs.Bounds.{maxAtoms, maxVariables, maxRoles, setBytes}
+use Rattle.bounds.specs.Bounds.{maxConstants, maxVariables, maxRoles, setBytes}
 use Rattle.answer.specs.declared.Handed.{Handed}
 use Rattle.answer.specs.Handed.{handed}
 use Rattle.table.specs.Reading.{tableOf}
@@ -41,9 +41,9 @@ use Rattle.join.specs.JoinLaws.{joined-refused, joined-solved, solved-fa
 -- Names
 
 module _ (s table : List ℕ) (f : Solved s table) where
-  pub few-constants : (spans : List ℕ) (r : ℕ) → SpansDone s 0 spans r → r ≤ maxAtoms
+  pub few-constants : (spans : List ℕ) (r : ℕ) → SpansDone s 0 spans r → r ≤ maxConstants
   unfolding SpansDone groupNames
-  few-constants spans r d = omega (arith, d .0, f .constants-are, layout table (f .ok) .constants, layout table (f .ok) .few-atoms)
+  few-constants spans r d = omega (arith, d .0, f .constants-are, layout table (f .ok) .constants, layout table (f .ok) .few-constants)
 
   pub few-opens : (spans : List ℕ) (r : ℕ) → SpansDone s 1 spans r → r ≤ maxVariables
   unfolding SpansDone groupNames

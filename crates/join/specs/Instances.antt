@@ -95,7 +95,7 @@ t = flatTable file
 
 within : InBounds t
 unfolding flatTable tableOf rowsAll linesAll statementsOf nameOf constantNumber openNumber roleNumber namesOf keep sameBytes beginsWith thingBytes openBytes axiomsOf classesOf propertiesOf once isAmong place anyOf sameRow countsOf everyOf
-within = record { counts = record { few-roles = omega arith; few-variables = omega arith; few-atoms = omega arith; few-lines = omega arith; few-role-rows = omega arith }; left = tt }
+within = record { counts = record { few-roles = omega arith; few-variables = omega arith; few-constants = omega arith; few-restrictions = omega arith; few-atoms = omega arith; few-lines = omega arith; few-role-rows = omega arith }; left = tt }
 
 all-declared : T (declared t)
 all-declared = flat-declared (roleOrder t) (roleOrder-refl t) (roleOrder-trans t) file file-known

@@ -18,7 +18,7 @@ use mathlib.Core.List.{List, [], _∷_, _++_}
 use Prim.Native.Nat.{ℕ, _+_, _*_}
 use lib.Dec.{eqb, ltb}
 use lib.ListN.{length, take, replicate}
-use Rattle.bounds.specs.Bounds.{maxAtoms, maxVariables, maxLines, maxRoleRows, setBytes}
+use Rattle.bounds.specs.Bounds.{maxRestrictions, maxVariables, maxLines, maxRoleRows, setBytes}
 use Rattle.answer.specs.Handed.{handed}
 use Rattle.table.specs.Reading.{headerLength, tableOf}
 use Rattle.table.specs.Bytes.{longestLine}
@@ -41,7 +41,7 @@ joinBudget = 1000000
 
 -- room for every readable table, and for the set of every variable
 abbrev pub joinTable : List ℕ
-joinTable = replicate (headerLength + 1 + 2 * maxRoleRows + 2 * maxAtoms + longestLine * maxLines) 0
+joinTable = replicate (headerLength + 1 + 2 * maxRoleRows + 2 * maxRestrictions + longestLine * maxLines) 0
 
 abbrev pub joinOutput : List ℕ
 joinOutput = replicate (setBytes * maxVariables) 0

@@ -169,7 +169,7 @@ module _ (s : List ℕ) (f : File) (small : length s ≤ joinMost) (says : Says 
       ∙ ap₂ (λ (d : Names) (u : Table). numbersLine 0 (N t) 0 ++ namedLines d u (setIn (written a joinOutput))) (names-said s f says) (sym (table-is bytes t is-table))
       ∙ ap (λ (x : List ℕ). numbersLine 0 (N t) 0 ++ x)
       (lines-sets (namesOf (f .items)) t all-declared (setIn (written a joinOutput)) (setOf a)
-      (λ x h. set-back a joinOutput x (let e : length a ≡ t .variables = first .0 .0 in omega arith) (set-number x (let e : length a ≡ t .variables = first .0 .0 in omega arith)))
+      (λ x h. set-back setBytes a joinOutput x (let e : length a ≡ t .variables = first .0 .0 in omega arith) (set-number x (let e : length a ≡ t .variables = first .0 .0 in omega arith)))
       (length (namesOf (f .items) .opens)) (omega arith))
     where
       set-number : (x : ℕ) → x < length a → getD a x 0 < setNumbers

@@ -28,7 +28,7 @@ const BUDGET: Count = 1000000;
 const TABLE: usize = table::HEADER
     + 1
     + 2 * bounds::MAX_ROLE_ROWS
-    + 2 * bounds::MAX_ATOMS
+    + 2 * bounds::MAX_RESTRICTIONS
     + (bounds::MAX_LEFT + 2) * bounds::MAX_LINES;
 
 // An output with room for every variable.
@@ -47,7 +47,7 @@ fn put_named(file: &[u8], table: &[u8], output: &[u8], buffer: &mut [u8], pen: P
     requires { ⌜ Solved (now file) (now table) × (setBytes * maxVariables ≤ length (now output)) ⌝ }
     ensures { λ r. ⌜ Shown (now (buffer .entry)) (pen .skip) (pen .at) (namedLines (namesIn (now (file .entry))) (tableOf (now (table .entry))) (setIn (now (output .entry)))) (now (buffer .exit)) (r .skip) (r .at) ⌝ }
 {
-    let mut constants = [0usize; 2 * bounds::MAX_ATOMS];
+    let mut constants = [0usize; 2 * bounds::MAX_CONSTANTS];
     let mut opens = [0usize; 2 * bounds::MAX_VARIABLES];
     let mut roles = [0usize; 2 * bounds::MAX_ROLES];
     let c = owl_span::spans(file, 0, &mut constants);

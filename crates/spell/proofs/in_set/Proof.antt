@@ -9,4 +9,4 @@ unfolding bit
 returns c = search needs
 
 pub in-set-spec : {M : Type 1} → statement M
-in-set-spec = tie.close (tie.spec (λ c. search needs) (λ c. search needs) returns)
+in-set-spec = tie.close (tie.spec (λ c. search needs) returns)

@@ -7,13 +7,13 @@ use mathlib.Core.Logic.{_↔_}
 use mathlib.Core.List.{List}
 use Prim.Native.Nat.{ℕ, _+_, _*_, _^_, _≤_, _<_}
 use native.Mathlib.Omega.{arith}
-use lib.Dec.{T, ltb→lt}
+use lib.Dec.{ltb→lt}
 use lib.ListN.{length, getD}
 use lib.Pow.{pow-mono}
 use borrow.Author.Tests.{le-ltb}
 use Rattle.bounds.specs.Bounds.{bounds, setBytes}
 use Rattle.el.specs.TestLaws.{everyOf-at}
-use Rattle.el.specs.Table.{Table, atoms, declared, roleOrder}
+use Rattle.el.specs.Table.{Table, atoms, roleOrder}
 use Rattle.el.specs.Assignment.{Assignment, IsAssignment}
 use Rattle.el.specs.Walk.{Outcome, solved, nothing, budget, outcome}
 use Rattle.el.specs.First.{OutcomeSays}

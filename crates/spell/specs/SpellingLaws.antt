@@ -10,7 +10,7 @@ use mathlib.Core.Bool.{Bool, true, false, _&&_}
 use mathlib.Core.List.{List, [], _∷_, _++_, map, map-append}
 use Prim.Native.Nat.{ℕ, zero, suc, _+_, _-_, _≤_, _<_}
 use native.Mathlib.Omega.{arith}
-use lib.Dec.{T, eqb, eqb→eq, eqb-refl, ltb, ltb→lt}
+use lib.Dec.{T, eqb→eq, eqb-refl, ltb, ltb→lt}
 use lib.ListN.{length}
 use borrow.Author.Tests.{ltb-false}
 use Rattle.el.specs.Test.{bit}

@@ -20,7 +20,7 @@ ghost use Rattle.el.specs.Table.{Table, atoms, roleOrder};
 ghost use Rattle.el.specs.Walk.{outcome};
 ghost use Rattle.table.specs.Reading.{headerOf, reading, isReadable, tableOf};
 ghost use Rattle.node.specs.Node.{preparedOf, Prepares};
-ghost use Rattle.level.specs.Sweep.{siblingOf, SweepGiven};
+ghost use Rattle.level.specs.Sweep.{SweepGiven};
 ghost use Rattle.walk.specs.Step.{InRange, Sound, deadAt, Next, Looks, Advances, CanCount, Runs, RunsOn, Given, Fresh, outcomeOf};
 
 // Where a step leads: to the end of the walk, on to a node, or nowhere because no node is left.

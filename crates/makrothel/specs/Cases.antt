@@ -3,7 +3,7 @@
 --   Budget      == at least so many nodes, or exactly so many
 --   Under g b   == the budget b is one of g
 --   Case        == a table's bytes, budgets, how many variables it has, and what is answered: number, count and sets
---   cases       == P1 to P12, R1 to R5 with role rows, and W1, W2 at the bounds
+--   cases       == P1 to P12, R1 to R5 with role rows, and W1 at the bounds
 --   Is k out r  == the answer r has the case's number and count, place 0, and its sets written to `out`
 --   Answers k   == for every such budget and every output with room the answer is so
 --   cases-hold  == every case answers so
@@ -13,11 +13,11 @@
 --   refusals-hold == every one of them is so refused
 use mathlib.Core.Path.{_≡_, refl, sym, ap, subst, _∙_}
 use mathlib.Core.List.{List, [], _∷_, _++_}
-use Prim.Native.Nat.{ℕ, _+_, _*_, _≤_}
+use Prim.Native.Nat.{ℕ, _*_, _≤_}
 use native.Mathlib.Omega.{arith}
 use lib.Dec.{T}
 use lib.ListN.{length, replicate}
-use Rattle.bounds.specs.Bounds.{maxVariables, setBytes}
+use Rattle.bounds.specs.Bounds.{setBytes}
 use Rattle.el.specs.Test.{anyBelow, allBelow, anyOf, everyOf, bit}
 use Rattle.el.specs.Description.{sameRole}
 use Rattle.el.specs.Roles.{reachesRole}
@@ -179,16 +179,12 @@ r5 =
       sets = [];
     }
 
--- as many variables as there may be, and no atom: each has its one set
+-- as many constants, atoms and variables as there may be: constant 31 below restriction 23; 24 rows of role 0 and top
 abbrev pub w1 : Case
-w1 = case (counts 0 0 maxVariables 0 0) (atLeast (maxVariables + 1)) maxVariables 0 (maxVariables + 1) (replicate maxVariables 0)
-
--- as many constants and atoms as there may be: constant 31 below restriction 23, no variables; 24 rows of role 0 and top
-abbrev pub w2 : Case
-w2 = case (counts 32 1 0 24 1 ++ (replicate 48 0 ++ (1 ∷ 0x3F ∷ 0x57 ∷ []))) (atLeast 1) 0 8 1 []
+w1 = case (counts 32 1 24 24 1 ++ (replicate 48 0 ++ (1 ∷ 0x3F ∷ 0x57 ∷ []))) (atLeast 1) 24 8 1 []
 
 abbrev pub cases : List Case
-cases = p1 ∷ p2 ∷ p3 ∷ p4 ∷ p5 ∷ p6 ∷ p7 ∷ p8 ∷ p9 ∷ p10 ∷ p11 ∷ p12 ∷ r1 ∷ r2 ∷ r3 ∷ r4 ∷ r5 ∷ w1 ∷ w2 ∷ []
+cases = p1 ∷ p2 ∷ p3 ∷ p4 ∷ p5 ∷ p6 ∷ p7 ∷ p8 ∷ p9 ∷ p10 ∷ p11 ∷ p12 ∷ r1 ∷ r2 ∷ r3 ∷ r4 ∷ r5 ∷ w1 ∷ []
 
 -- an answer with that number, that count, place 0 and those sets
 abbrev pub Is : Case → List ℕ → Answered → Type 0
@@ -232,9 +228,9 @@ every (k ∷ ks) c = (answers k (c .0), every ks (c .1))
 
 computed : Every Computes cases
 unfolding writtenIn assignmentBytes littleEndian outcome count examined firstOf upToFirst nodes treeOf inTurn ends full dead fails ready settled lineVariables chosen induced inducedTo setUnder conjoin atomUnder acyclic reaches path depends setOf holds rowAt atoms anyBelow allBelow anyOf everyOf bit roleOrder reachesRole sameRole tableOf reading readBody readLine readCode readPair readMany readHeader readCounts headerEnd roleCount hasRoleRows versionKnown marked roleOf entryOf entryOfKind fillerOf fillerOfKind within kindOf
-computed = ((solved 1 [], refl, refl, (refl, refl), λ out. (refl, refl)), ((nothing 1, refl, refl, (refl, refl), λ out. (refl, refl)), ((solved 3 (1 ∷ []), refl, refl, (refl, refl), λ out. (refl, refl)), ((solved 2 (0 ∷ []), refl, refl, (refl, refl), λ out. (refl, refl)), ((nothing 3, refl, refl, (refl, refl), λ out. (refl, refl)), ((solved 3 (1 ∷ []), refl, refl, (refl, refl), λ out. (refl, refl)), ((solved 5 (3 ∷ []), refl, refl, (refl, refl), λ out. (refl, refl)), ((solved 14 (2 ∷ 1 ∷ []), refl, refl, (refl, refl), λ out. (refl, refl)), ((budget 13, refl, refl, refl, λ out. (refl, refl)), ((nothing 1, refl, refl, (refl, refl), λ out. (refl, refl)), ((solved 1 [], refl, refl, (refl, refl), λ out. (refl, refl)), ((nothing 33, refl, refl, (refl, refl), λ out. (refl, refl)), ((nothing 1, refl, refl, (refl, refl), λ out. (refl, refl)), ((solved 1 [], refl, refl, (refl, refl), λ out. (refl, refl)), ((nothing 1, refl, refl, (refl, refl), λ out. (refl, refl)), ((nothing 1, refl, refl, (refl, refl), λ out. (refl, refl)), ((solved 1 [], refl, refl, (refl, refl), λ out. (refl, refl)), ((solved 25 (replicate maxVariables 0), refl, refl, (refl, refl), λ out. (refl, refl)), ((nothing 1, refl, refl, (refl, refl), λ out. (refl, refl)), tt)))))))))))))))))))
+computed = ((solved 1 [], refl, refl, (refl, refl), λ out. (refl, refl)), ((nothing 1, refl, refl, (refl, refl), λ out. (refl, refl)), ((solved 3 (1 ∷ []), refl, refl, (refl, refl), λ out. (refl, refl)), ((solved 2 (0 ∷ []), refl, refl, (refl, refl), λ out. (refl, refl)), ((nothing 3, refl, refl, (refl, refl), λ out. (refl, refl)), ((solved 3 (1 ∷ []), refl, refl, (refl, refl), λ out. (refl, refl)), ((solved 5 (3 ∷ []), refl, refl, (refl, refl), λ out. (refl, refl)), ((solved 14 (2 ∷ 1 ∷ []), refl, refl, (refl, refl), λ out. (refl, refl)), ((budget 13, refl, refl, refl, λ out. (refl, refl)), ((nothing 1, refl, refl, (refl, refl), λ out. (refl, refl)), ((solved 1 [], refl, refl, (refl, refl), λ out. (refl, refl)), ((nothing 33, refl, refl, (refl, refl), λ out. (refl, refl)), ((nothing 1, refl, refl, (refl, refl), λ out. (refl, refl)), ((solved 1 [], refl, refl, (refl, refl), λ out. (refl, refl)), ((nothing 1, refl, refl, (refl, refl), λ out. (refl, refl)), ((nothing 1, refl, refl, (refl, refl), λ out. (refl, refl)), ((solved 1 [], refl, refl, (refl, refl), λ out. (refl, refl)), ((nothing 1, refl, refl, (refl, refl), λ out. (refl, refl)), tt))))))))))))))))))
 
--- P1 TO P12, R1 TO R5, W1, W2
+-- P1 TO P12, R1 TO R5, W1
 pub cases-hold : Every Answers cases
 cases-hold = every cases computed
 

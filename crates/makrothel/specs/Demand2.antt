@@ -2,7 +2,7 @@
 --
 --   table-is         == a readable table's table
 --   known            == a readable table declares all it names
---   answer-outcome   == with room the answer is the outcome of the walk
+--   reading-outcome, answer-outcome == with room the answer is the outcome of the walk
 --   first-unique     == there is at most one first assignment that solves
 --   demand-2-solved  == within the budget, the first assignment that solves is answered: "solved", count N, and its sets written
 --   demand-2-none    == within the budget, where none solves: "none", count N, and the output as it was
@@ -31,7 +31,8 @@ use Rattle.el.specs.First.{OutcomeSays}
 use Rattle.answer.specs.declared.Answer.{Answer}
 use Rattle.answer.specs.declared.Answer.the-variants.{Solved, Nothing, Budget}
 use Rattle.answer.specs.Handed.{handed}
-use Rattle.table.specs.Reading.{Reading, theTable, tableOf, isReadable}
+use Rattle.table.specs.declared.Header.{Header}
+use Rattle.table.specs.Reading.{Reading, readable, reading, theTable, tableOf, isReadable}
 use Rattle.table.specs.Bytes.{IsTable}
 use Rattle.table.specs.BytesLaws.{table-read}
 use Rattle.table.specs.LayoutLaws.{layout}
@@ -53,6 +54,12 @@ first-none : (t : Table) (a : Assignment) → FirstSolving t a → NoneSolves t 
 unfolding FirstSolving NoneSolves
 first-none t a f n = n a (f .0) (f .1)
 
+-- with room a readable table is answered by the outcome of the walk, whatever the width of a set
+pub reading-outcome : (k : ℕ) (r : Reading) (h : Header) (t : Table) (b : ℕ) (out : List ℕ) → r ≡ readable h t → k * t .variables ≤ length out
+    → readingAs k r b out ≡ outcomeAs k (outcome (roleOrder t) t b) out
+unfolding tableAs
+reading-outcome k r h t b out e room = ap (λ (x : Reading). readingAs k x b out) e ∙ rw (le-ltb (length out) (k * t .variables) room, tableAs)
+
 module _ (s : List ℕ) (t : Table) (is : IsTable s t) where
   pub table-is : t ≡ tableOf s
   unfolding tableOf
@@ -66,8 +73,8 @@ module _ (s : List ℕ) (t : Table) (is : IsTable s t) where
 
 module _ (s : List ℕ) (t : Table) (is : IsTable s t) (b : ℕ) (out : List ℕ) (room : setBytes * t .variables ≤ length out) where
   pub answer-outcome : answer s b out ≡ outcomeAs setBytes (outcome (roleOrder t) t b) out
-  unfolding answer tableAs
-  answer-outcome = ap (λ (r : Reading). readingAs setBytes r b out) (table-read s t is .1) ∙ rw (le-ltb (length out) (setBytes * t .variables) room, tableAs)
+  unfolding answer
+  answer-outcome = reading-outcome setBytes (reading s) _ t b out (table-read s t is .1) room
 
   -- BUDGET
   pub demand-2-budget : b < N t → answer s b out ≡ answered (Budget b) out

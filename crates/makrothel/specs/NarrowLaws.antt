@@ -1,7 +1,7 @@
 -- Tables within 01's own bounds are answered as 01 answers them, with its output of four bytes for each variable.
 --
 --   narrow-counts == within these bounds are the counts that 01 bounds
---   narrow-answer == WHAT WAS READABLE GETS THE SAME NUMBER, COUNT AND SETS
+--   narrow-answer == WHAT IS READABLE WITHIN THEM GETS THE SAME NUMBER, COUNT AND SETS
 use mathlib.Core.Path.{_≡_, refl, sym, ap, subst, _∙_}
 use mathlib.Core.Logic.{_↔_}
 use mathlib.Core.List.{List}
@@ -10,7 +10,6 @@ use native.Mathlib.Omega.{arith}
 use lib.Dec.{ltb→lt}
 use lib.ListN.{length, getD}
 use lib.Pow.{pow-mono}
-use borrow.Author.Tests.{le-ltb}
 use Rattle.bounds.specs.Bounds.{bounds, setBytes}
 use Rattle.el.specs.TestLaws.{everyOf-at}
 use Rattle.el.specs.Table.{Table, atoms, roleOrder}
@@ -22,17 +21,17 @@ use Rattle.answer.specs.declared.Answer.{Answer}
 use Rattle.answer.specs.declared.Answer.the-variants.{Solved}
 use Rattle.answer.specs.Handed.{handed}
 use Rattle.table.specs.declared.Header.{Header}
-use Rattle.table.specs.Reading.{Reading, readable, readingWithin, reading, Wider}
-use Rattle.table.specs.Bytes.{Within}
+use Rattle.table.specs.Reading.{readable, readingWithin, reading, Wider}
+use Rattle.table.specs.Bytes.{Within, IsTable}
 use Rattle.table.specs.ReadLaws.{readable-read}
 use Rattle.table.specs.WiderLaws.{readable-wider}
 use Rattle.output.specs.Written.{setAt, setIn}
 use Rattle.output.specs.WrittenLaws.{set-back}
 use Rattle.makrothel.specs.Numbers.{Said}
-use Rattle.makrothel.specs.Solve.{Answered, outcomeAs, tableAs, readingAs, answer}
+use Rattle.makrothel.specs.Solve.{Answered, outcomeAs, answer}
 use Rattle.makrothel.specs.Narrow.{narrowBounds, narrowSetBytes, narrowAnswer}
 use Rattle.makrothel.specs.Demand1.{is-table}
-use Rattle.makrothel.specs.Demand2.{known}
+use Rattle.makrothel.specs.Demand2.{reading-outcome, known, answer-outcome}
 
 pub narrow-counts : (h : Header) → Within narrowBounds h ↔ ((h .c + h .e ≤ 24) × (h .r ≤ 16) × (h .v ≤ 12) × (h .m ≤ 64) × (h .q ≤ 32))
 narrow-counts h = (
@@ -60,19 +59,18 @@ module _ (s : List ℕ) (h : Header) (t : Table) (was : readingWithin narrowBoun
       let l : h .c + h .e ≤ 24 = r .0 .counts .few-atoms in
       omega arith
 
-  -- with room both answers are the outcome of one walk
-  now-outcome : (b : ℕ) (out : List ℕ) → setBytes * t .variables ≤ length out → answer s b out ≡ outcomeAs setBytes (outcome (roleOrder t) t b) out
-  unfolding answer tableAs
-  now-outcome b out room = ap (λ (r : Reading). readingAs setBytes r b out) still ∙ rw (le-ltb (length out) (setBytes * t .variables) room, tableAs)
+  is : IsTable s t
+  is = is-table s h t still
 
+  -- with room both answers are the outcome of one walk
   narrow-outcome : (b : ℕ) (out : List ℕ) → narrowSetBytes * t .variables ≤ length out → narrowAnswer s b out ≡ outcomeAs narrowSetBytes (outcome (roleOrder t) t b) out
-  unfolding narrowAnswer tableAs
-  narrow-outcome b out room = ap (λ (r : Reading). readingAs narrowSetBytes r b out) was ∙ rw (le-ltb (length out) (narrowSetBytes * t .variables) room, tableAs)
+  unfolding narrowAnswer
+  narrow-outcome b out room = reading-outcome narrowSetBytes (readingWithin narrowBounds s) h t b out was room
 
   small : (a : Assignment) → IsAssignment t a → (x : ℕ) → x < length a → getD a x 0 < 2 ^ 24
   unfolding IsAssignment
-  small a is x l =
-      let one : getD a x 0 < 2 ^ atoms t = ltb→lt (getD a x 0) (2 ^ atoms t) (everyOf-at _ a x 0 (is .1) l) in
+  small a of x l =
+      let one : getD a x 0 < 2 ^ atoms t = ltb→lt (getD a x 0) (2 ^ atoms t) (everyOf-at _ a x 0 (of .1) l) in
       let most : 2 ^ atoms t ≤ 2 ^ 24 = pow-mono few in
       omega arith
 
@@ -96,6 +94,6 @@ module _ (s : List ℕ) (h : Header) (t : Table) (was : readingWithin narrowBoun
     pub narrow-answer : (answer s b out .says ≡ narrowAnswer s b narrow .says)
         × (Said Solved (answer s b out .says) → (x : ℕ) → x < t .variables → setIn (answer s b out .output) x ≡ setAt narrowSetBytes (narrowAnswer s b narrow .output) x)
     narrow-answer =
-        subst (λ (q : Answered). Same q (narrowAnswer s b narrow)) (sym (now-outcome b out room))
+        subst (λ (q : Answered). Same q (narrowAnswer s b narrow)) (sym (answer-outcome s t is b out room))
         (subst (λ (r : Answered). Same (outcomeAs setBytes (outcome (roleOrder t) t b) out) r) (sym (narrow-outcome b narrow narrow-room))
-        (same (outcome (roleOrder t) t b) (outcome-says (roleOrder t) t (known s t (is-table s h t still)) b)))
+        (same (outcome (roleOrder t) t b) (outcome-says (roleOrder t) t (known s t is) b)))

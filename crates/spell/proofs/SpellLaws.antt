@@ -29,7 +29,7 @@ use Rattle.table.specs.CodeLaws.{filler-writes}
 use Rattle.table.specs.Reading.{reading, tableOf, isReadable, headerOf}
 use Rattle.table.specs.Layout.{IsRowFiller}
 use Rattle.table.specs.LayoutLaws.{layout}
-use Rattle.text.specs.Text.{newline, joined, behind, any}
+use Rattle.text.specs.Text.{space, newline, joined, behind, any}
 use Rattle.text.specs.Listing.{ampersand, atomsIn}
 use Rattle.text.proofs.Laws.{joined-more}
 use Rattle.owl.specs.Tree.{Name}
@@ -37,7 +37,7 @@ use Rattle.owl.specs.Naming.{Names, thingBytes}
 use Rattle.owl.specs.Token.{someValuesWord}
 use Rattle.spell.specs.Window.{Shown}
 use Rattle.spell.specs.WindowLaws.{shown-as, shown-none, shown-then}
-use Rattle.spell.specs.Spelling.{nameOf, opening, closing, space, someText, joinedText, enclosed, variableText, fillerText, rowText, atomText, atomTexts, speltTo, setText, variableLine, variableLines}
+use Rattle.spell.specs.Spelling.{nameOf, opening, closing, someText, joinedText, enclosed, variableText, fillerText, rowText, atomText, atomTexts, speltTo, setText, variableLine, variableLines}
 use Rattle.spell.specs.Given.{spanText, SpansOf}
 use Rattle.spell.specs.Step.{headText, codeText, atomOf, SetBegun, kindFits, FillerFits}
 use Rattle.spell.proofs.PutLaws.{name-is}

@@ -2,7 +2,7 @@
 --
 --   nameText n           == the bytes of the name n, as written
 --   nameOf l k           == those of name k of l; none where there is none
---   opening, closing, space == `(`, `)` and a space
+--   opening, closing     == `(` and `)`
 --   someText role filler == a restriction, from the texts of its role and its filler
 --   joinedText ts        == the texts of atoms joined by ` & `, or `owl:Thing` for none
 --   enclosed ts          == the same, in parentheses where there are several
@@ -24,7 +24,7 @@ use Prim.Native.Nat.{ℕ, zero, suc, _-_}
 use lib.Dec.{ltb}
 use lib.ListN.{length}
 use Rattle.el.specs.Table.{Filler, topF, constantF, variableF, Row, Table, rowAt, atoms}
-use Rattle.text.specs.Text.{newline, joined}
+use Rattle.text.specs.Text.{newline, space, joined}
 use Rattle.text.specs.Listing.{ampersand, atomsIn}
 use Rattle.owl.specs.Tree.{Name, short, full}
 use Rattle.owl.specs.Naming.{Names, thingBytes}
@@ -45,9 +45,6 @@ opening = 0x28 ∷ []
 
 abbrev pub closing : List ℕ
 closing = 0x29 ∷ []
-
-abbrev pub space : List ℕ
-space = 0x20 ∷ []
 
 -- "a restriction as `ObjectSomeValuesFrom(role filler)`"
 unfoldable pub someText : List ℕ → List ℕ → List ℕ

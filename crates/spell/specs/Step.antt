@@ -18,13 +18,13 @@ use Rattle.table.specs.declared.Kind.the-variants.{Top, Constant, Restriction, 
 use Rattle.table.specs.Code.{kindOf}
 use Rattle.table.specs.Reading.{tableOf, headerOf}
 use Rattle.output.specs.Written.{setIn}
-use Rattle.text.specs.Text.{joined, any}
+use Rattle.text.specs.Text.{space, joined, any}
 use Rattle.text.specs.Listing.{ampersand}
 use Rattle.owl.specs.Naming.{Names, thingBytes}
 use Rattle.owl.specs.Mention.{namesIn}
 use Rattle.owl.specs.Token.{someValuesWord}
 use Rattle.spell.specs.Window.{Shown}
-use Rattle.spell.specs.Spelling.{nameOf, opening, space, variableText, atomText, atomTexts, speltTo}
+use Rattle.spell.specs.Spelling.{nameOf, opening, variableText, atomText, atomTexts, speltTo}
 
 abbrev pub spelling : List ℕ → List ℕ → List ℕ → ℕ → ℕ → List ℕ
 spelling s table output n = speltTo (namesIn s) (tableOf table) (setIn output) n

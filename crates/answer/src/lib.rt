@@ -1,11 +1,13 @@
 // The answers, and what is handed back under each. No other crate ties a number to its meaning.
+#![tactic(auto)]
+
 ghost use Rattle.std.specs.Prelude.{◌≡◌};
 ghost use Rattle.answer.specs.Handed.{handed};
 
 use bounds::Count;
 
 // A case for each row of the table "Numbers handed back", in its order, with what its count or place is.
-#[derive(Drop)]
+#[derive(Clone, Copy)]
 pub enum Answer {
     Solved(Count),
     EndsEarly(usize),
@@ -19,7 +21,7 @@ pub enum Answer {
     Budget(Count),
 }
 
-#[derive(Drop)]
+#[derive(Clone, Copy)]
 pub struct Handed {
     pub number: u32,
     pub count: Count,

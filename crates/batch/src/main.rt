@@ -1,5 +1,7 @@
 // Answers a stream of questions, a line of text for each. A question is a kind (1 read, 2 line, 3 solve), a number in four bytes, the
 // length of the output in two, the length of the table in two, little-endian, and the table.
+#![tactic(auto)]
+
 ghost use Rattle.std.specs.Prelude.{◌≡◌, ◌≤◌, min, length, take, replicate};
 ghost use Rattle.io.specs.Counts.{IsPrefixLen};
 ghost use Rattle.batch.specs.Question.{most, head_length, line_room, question_of, is_question, read_reply, line_reply, solve_reply, reply};

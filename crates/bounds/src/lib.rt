@@ -1,4 +1,6 @@
 // The bounds of a table, and the types that hold what they bound. No other crate writes these numbers.
+#![tactic(auto)]
+
 ghost use Rattle.std.specs.Prelude.{◌≡◌};
 ghost use Rattle.std.specs.Int.Count.{count_trailing_zeros};
 ghost use Rattle.bounds.specs.Bounds.{set_bits};

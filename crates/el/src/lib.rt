@@ -1,1 +1,2 @@
 // What the logic says: definitions and laws in specs/, and no code.
+#![tactic(auto)]

@@ -1,6 +1,8 @@
 // Reads an OWL file from standard input, joins what it says and writes the answer as text.
 //
 // The text is written in windows, one after the other: a fresh variable is spelt out where it stands, so the text may be longer than any buffer.
+#![tactic(auto)]
+
 ghost use Rattle.std.specs.Prelude.{◌≡◌, true, ◌*◌, ◌≤◌, length, take};
 ghost use Rattle.io.specs.Counts.{IsPrefixLen};
 ghost use Rattle.bounds.specs.Bounds.{set_bytes, max_variables};

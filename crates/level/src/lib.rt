@@ -1,5 +1,7 @@
 // A level of the walk: what the children of one live node share. Worked out once for a node, it leaves for each child two masks
 // to hold its newest set against, and the lines that only now are ready.
+#![tactic(auto)]
+
 ghost use Rattle.std.specs.Prelude.{◌≡◌, ◌≤◌, length, take};
 ghost use Rattle.bounds.specs.Bounds.{max_variables, max_lines};
 ghost use Rattle.el.specs.Table.{role_order};
@@ -13,7 +15,7 @@ use node::Counts;
 
 // The atoms that lead a newest variable back to itself, those that lead it to a variable that is not chosen, and the numbers of
 // the lines that the children have to test.
-#[derive(Drop)]
+#[derive(Clone, Copy)]
 pub struct Level {
     pub turning: SetNumber,
     pub leaving: SetNumber,
@@ -141,7 +143,7 @@ fn child_is_dead(
 }
 
 // What halted a sweep over siblings: a live one, the last one passed, or as many examined as were allowed.
-#[derive(Drop)]
+#[derive(Clone, Copy)]
 pub enum Halt {
     Live,
     Over,
@@ -149,7 +151,7 @@ pub enum Halt {
 }
 
 // How many siblings were examined, and the set number of the one at hand.
-#[derive(Drop)]
+#[derive(Clone, Copy)]
 pub struct Swept {
     pub end: Halt,
     pub passed: Count,

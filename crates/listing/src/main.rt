@@ -1,4 +1,6 @@
 // Reads a table from standard input, solves it and writes the answer as text.
+#![tactic(auto)]
+
 ghost use Rattle.std.specs.Prelude.{◌≡◌, ◌≤◌, length, take};
 ghost use Rattle.io.specs.Counts.{IsPrefixLen};
 ghost use Rattle.text.specs.Room.{listing_room};

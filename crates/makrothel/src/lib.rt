@@ -1,4 +1,6 @@
 // The public calls.
+#![tactic(auto)]
+
 mod c;
 
 ghost use Rattle.std.specs.Prelude.{◌≡◌, ◌*◌, ◌≤◌, length};
@@ -16,7 +18,7 @@ use walk::{End, Walked};
 
 // What the reader answers: 0 or the number of a refusal, its place, and the counts, zeros when refused; `inclusions` is q, the count of role
 // rows.
-#[derive(Drop)]
+#[derive(Clone, Copy)]
 pub struct ReadAnswer {
     pub number: u32,
     pub place: usize,
@@ -67,7 +69,7 @@ pub fn read(table: &[u8]) -> ReadAnswer
 }
 
 // Where a line lies in its table: the byte where it begins, and its length; zeros where there is none.
-#[derive(Drop)]
+#[derive(Clone, Copy)]
 struct Span {
     start: usize,
     length: usize,

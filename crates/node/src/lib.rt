@@ -5,6 +5,8 @@
 // atom. Marking these too, again and again, marks all that lead to the first marks. Striking out, again and again, what depends on
 // nothing still standing leaves something exactly if the node is cyclic, and so dead. Else a variable is settled if it and all it leads to
 // are chosen; a line is ready if all its variables are settled; and the node is dead if a ready line fails.
+#![tactic(auto)]
+
 ghost use Rattle.std.specs.Prelude.{◌≡◌, ◌&&◌, not, ℕ, ◌+◌, ◌≤◌, ◌<◌, T, ltb, length, take, List};
 ghost use Rattle.std.proofs.Math.Option.{some};
 ghost use Rattle.el.specs.Test.{bit};
@@ -23,7 +25,7 @@ use bounds::{Place, RowMask, SetNumber, VariableMask};
 use table::Kind;
 
 // The counts of a table that the test of a node needs: constants, restrictions, variables and lines.
-#[derive(Drop)]
+#[derive(Clone, Copy)]
 pub struct Counts {
     pub c: usize,
     pub e: usize,
@@ -32,21 +34,21 @@ pub struct Counts {
 }
 
 // One set number for each variable, and how many variables are chosen.
-#[derive(Drop)]
+#[derive(Clone, Copy)]
 pub struct Sets {
     pub set: [SetNumber; bounds::MAX_VARIABLES],
     pub chosen: usize,
 }
 
 // A row of marks on the variables, and the atoms whose filler is marked.
-#[derive(Drop)]
+#[derive(Clone, Copy)]
 pub struct Marks {
     pub marked: VariableMask,
     pub atoms: SetNumber,
 }
 
 // The mask of the variables of each line, and the byte where it begins.
-#[derive(Drop)]
+#[derive(Clone, Copy)]
 struct Lines {
     mask: [VariableMask; bounds::MAX_LINES],
     start: [Place; bounds::MAX_LINES],
@@ -54,7 +56,7 @@ struct Lines {
 
 // What is the same at every node: the rows for the line test, the mask of the variable inside each restriction, the mask of the
 // variables of each line, and the byte where each line begins.
-#[derive(Drop)]
+#[derive(Clone, Copy)]
 pub struct Prepared {
     pub over: [RowMask; bounds::MAX_RESTRICTIONS],
     pub inner: [u8; bounds::MAX_RESTRICTIONS],
@@ -231,8 +233,8 @@ fn entry_mask(fill: &[VariableMask], code: u8) -> VariableMask
 
 // The mask of the variables of the line that begins at the byte `at`, fillers included.
 fn line_mask(table: &[u8], fill: &[VariableMask], at: usize) -> VariableMask
-    requires t { T (is_readable (reading table.now)) × FillMasks (table_of table.now).rows (header_of table.now).e fill.now }
-    requires fill_len { (length fill.now ≡ max_restrictions) × LineBegins table.now at }
+    requires filled { T (is_readable (reading table.now)) × FillMasks (table_of table.now).rows (header_of table.now).e fill.now }
+    requires room { (length fill.now ≡ max_restrictions) × LineBegins table.now at }
     ensures { AtLine table.now at (λ l. LineMask (table_of table.now).rows l result) }
 {
     let p = table::left_count(table, at);
@@ -247,8 +249,8 @@ fn line_mask(table: &[u8], fill: &[VariableMask], at: usize) -> VariableMask
 
 // The mask of each line's variables, and the byte where it begins.
 fn lines_of(table: &[u8], fill: &[VariableMask], m: usize) -> Lines
-    requires t { T (is_readable (reading table.now)) × FillMasks (table_of table.now).rows (header_of table.now).e fill.now }
-    requires fill_len { (length fill.now ≡ max_restrictions) × (m ≡ (header_of table.now).m) }
+    requires filled { T (is_readable (reading table.now)) × FillMasks (table_of table.now).rows (header_of table.now).e fill.now }
+    requires room { (length fill.now ≡ max_restrictions) × (m ≡ (header_of table.now).m) }
     ensures { LineMasks (table_of table.now) m result.mask × LineStarts table.now m result.start }
 {
     let mut mask: [VariableMask; bounds::MAX_LINES] = [0; bounds::MAX_LINES];

@@ -5,6 +5,8 @@
 // set number, lies below one atom; whether it lies below every atom of another; and whether one filler lies below another. Each time
 // round one dependence less is left. An atom that both sets have lies below itself, so only the missing ones are asked; a missing
 // constant decides at once, so restrictions are left.
+#![tactic(auto)]
+
 ghost use Rattle.std.specs.Prelude.{◌≡◌, ◌+◌, ◌<◌, T};
 ghost use Rattle.bounds.specs.Bounds.{set_bits};
 ghost use Rattle.el.specs.Table.{Table, role_order};
@@ -142,7 +144,7 @@ fn flat_below(f: u8, g: u8) -> bool
 }
 
 // The conjunction of the set s lies below atom j: one of its atoms does.
-#[cycle(each_below_filler_below_set_below)]
+#[cycle(below)]
 fn set_below(
     over: &[RowMask],
     inner: &[u8],
@@ -175,7 +177,7 @@ fn set_below(
 }
 
 // The conjunction of the set `left` lies below every atom of the set `missing`, which has no constant.
-#[cycle(each_below_filler_below_set_below)]
+#[cycle(below)]
 fn each_below(
     over: &[RowMask],
     inner: &[u8],
@@ -204,7 +206,7 @@ fn each_below(
 }
 
 // Filler f lies below filler g: the conjunction of f's set lies below every atom of g's.
-#[cycle(each_below_filler_below_set_below)]
+#[cycle(below)]
 fn filler_below(
     over: &[RowMask],
     inner: &[u8],

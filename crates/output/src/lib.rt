@@ -1,5 +1,7 @@
 // The output: each variable's set number, little-endian, in the part that starts at its number times the bytes of one; written, and
 // read back.
+#![tactic(auto)]
+
 ghost use Rattle.std.specs.Prelude.{◌≡◌, ◌++◌, ◌+◌, ◌*◌, ◌^◌, ◌≤◌, ◌<◌, length, take, drop};
 ghost use Rattle.bounds.specs.Bounds.{set_bytes, max_variables};
 ghost use Rattle.output.specs.Written.{little_endian, number_at, widest, set_in, written};

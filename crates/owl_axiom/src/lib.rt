@@ -1,6 +1,8 @@
 // The axioms of a text and the fillers that are no names, in the order of the text.
 //
 // Nothing is kept: an axiom is told by the byte where the items behind it begin.
+#![tactic(auto)]
+
 ghost use Rattle.std.specs.Prelude.{◌≡◌, true, ◌≤◌, ◌<◌, length};
 ghost use Rattle.owl_axiom.specs.Axioms.{FirstItem, BehindNames, WordSides, NextAxiom};
 ghost use Rattle.owl_axiom.specs.Fillers.{NextFiller};

@@ -1,4 +1,6 @@
 // The check of a text, for C. A lent slice passes as a pointer and then a length, a lent array as a pointer.
+#![tactic(auto)]
+
 ghost use Rattle.std.specs.Prelude.{◌≡◌};
 ghost use Rattle.owl.specs.Grammar.{checked};
 ghost use Rattle.owl_c.specs.C.{place_alone};

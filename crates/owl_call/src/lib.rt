@@ -1,4 +1,6 @@
 // The call that reads an OWL text: the table of the text goes to a lent buffer.
+#![tactic(auto)]
+
 ghost use Rattle.std.specs.Prelude.{◌≡◌, false, ◌≤◌, length};
 ghost use Rattle.bounds.specs.Bounds.{max_lines};
 ghost use Rattle.text.specs.Append.{Appended};

@@ -1,4 +1,6 @@
 // The call for C, for the runs. A lent slice passes as a pointer and then a length, a lent array as a pointer.
+#![tactic(auto)]
+
 ghost use Rattle.owl_call_c.specs.C.{OwlIn};
 
 // Returns the number; the count and the place are in the lent array, and the buffer is as `owl` leaves it.

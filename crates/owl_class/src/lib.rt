@@ -2,6 +2,8 @@
 //
 // Constructs nest without bound; there is no recursion and no stack. A class expression is a name, or a word and what its brackets hold, so
 // that its end is found by counting brackets.
+#![tactic(auto)]
+
 ghost use Rattle.std.specs.Prelude.{◌≡◌, ◌&&◌, ◌≤◌, ◌<◌, eqb, length};
 ghost use Rattle.owl.specs.Mention.{name_by};
 ghost use Rattle.owl.specs.Conjunct.{ends_here, outer_after, inner_after};

@@ -1,6 +1,8 @@
 // The lines that two sides make, appended to a lent buffer.
 //
 // A side is a class expression of a text, told by its byte, or a fresh variable, told by its number; its entries are asked for one by one.
+#![tactic(auto)]
+
 ghost use Rattle.std.specs.Prelude.{◌≡◌, [], ◌∷◌, ◌+◌, ◌≤◌, ◌<◌, length};
 ghost use Rattle.bounds.specs.Bounds.{max_lines, max_left};
 ghost use Rattle.text.specs.Append.{Appended};

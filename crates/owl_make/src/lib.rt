@@ -2,6 +2,8 @@
 //
 // Constructs nest without bound; there is no recursion and no stack. The axioms are passed one after the other, then the fillers that are no
 // names; the entries of a side are asked for one by one.
+#![tactic(auto)]
+
 ghost use Rattle.std.specs.Prelude.{◌≡◌, ◌≤◌, length};
 ghost use Rattle.bounds.specs.Bounds.{max_lines};
 ghost use Rattle.owl_make.specs.Lines.{opens_in, AxiomDone, FillerDone, AxiomsDone, FillersDone, LinesDone};

@@ -2,6 +2,8 @@
 //
 // There is no array of names and no bound on their number: a name is sought among the declarations of the text itself, from the first byte
 // on, and is found at its first declaration. So each answer reads the text once for each name that it asks about.
+#![tactic(auto)]
+
 ghost use Rattle.std.specs.Prelude.{◌≡◌, true, false, ◌&&◌, not, ◌<◌, ◌≤◌, length};
 ghost use Rattle.owl.specs.Naming.{same_bytes, begins_with, same_name, is_thing, is_open, role_number};
 ghost use Rattle.owl.specs.Grammar.{is_name};

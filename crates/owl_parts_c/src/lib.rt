@@ -1,4 +1,6 @@
 // The names, rows and conjuncts of a text, for C, for the runs. A lent slice passes as a pointer and then a length, a lent array as a pointer.
+#![tactic(auto)]
+
 ghost use Rattle.std.specs.Prelude.{◌≡◌, ◌≤◌, length};
 ghost use Rattle.owl.specs.Naming.{role_number};
 ghost use Rattle.owl.specs.Mention.{name_by, names_in, undeclared};

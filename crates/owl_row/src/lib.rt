@@ -3,6 +3,8 @@
 // There is no array of rows and no bound on their number. Two restrictions have one row if they have one role and one name for a filler; a
 // filler that is no name has a variable of its own, so its restriction has a row of its own. So each answer reads the text once for each
 // restriction that it asks about.
+#![tactic(auto)]
+
 ghost use Rattle.std.specs.Prelude.{◌≡◌, [], ◌≤◌, length};
 ghost use Rattle.owl.specs.Once.{once};
 ghost use Rattle.owl.specs.Mention.{name_by};

@@ -1,5 +1,7 @@
 // Where the names of a text stand: for each name of a group the byte where its first declaration begins, and the byte behind it, in the order of
 // the names' numbers.
+#![tactic(auto)]
+
 ghost use Rattle.std.specs.Prelude.{◌≡◌, ◌≤◌, length};
 ghost use Rattle.owl.specs.Mention.{name_by, mentioned};
 ghost use Rattle.owl_name.specs.Declared.{in_group, adding, one_if};

@@ -1,4 +1,6 @@
 // The rows and the header of a text's table, appended to a lent buffer.
+#![tactic(auto)]
+
 ghost use Rattle.std.specs.Prelude.{◌≡◌, ◌≤◌, length};
 ghost use Rattle.text.specs.Append.{Appended};
 ghost use Rattle.owl_table.specs.Rows.{FillerCode, PutRow, PutRows};

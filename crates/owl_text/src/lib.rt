@@ -4,6 +4,8 @@
 // the construct still asks for; it changes only by tokens that stand directly in that level, and by those that open it. So the text is
 // read once for each block of 4,096 levels. A reading judges the tokens in its block, of the others it knows the depth alone, and it
 // goes no further than the first refusal that was found before it.
+#![tactic(auto)]
+
 ghost use Rattle.std.specs.Prelude.{◌≡◌, ◌&&◌, ◌⊎◌, ◌+◌, ◌-◌, ◌≤◌, ◌<◌, eqb, length};
 ghost use Rattle.owl.specs.Grammar.{checked};
 ghost use Rattle.owl_text.specs.Levels.{column, moves, next, opener, inner, deeper, opened, in_block, refusing, Clear, Refused, Found};

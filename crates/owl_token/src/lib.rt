@@ -1,4 +1,6 @@
 // The tokens of a text. There is no token list: a token is found from a position, by its bytes alone.
+#![tactic(auto)]
+
 ghost use Rattle.std.specs.Prelude.{◌≡◌, true, false, ◌+◌, ◌*◌, ◌≤◌, ◌<◌, T, ltb, length, get_or, drop};
 ghost use Rattle.el.specs.Test.{every_of};
 ghost use Rattle.owl.specs.Naming.{same_bytes};

@@ -1,5 +1,7 @@
 // Reads many tables and prints what the public calls answer: for the reader a line with number, place and the counts,
 // for the line call a line with the length of the part and its bytes. Each group has a title.
+#![tactic(auto)]
+
 ghost use Rattle.std.specs.Prelude.{◌≤◌, ◌<◌};
 ghost use Rattle.table.specs.Bytes.{enough_length};
 

@@ -2,6 +2,8 @@
 //
 // Without role rows each role lies under itself alone. One role row more, narrower n and wider w, puts what lies under n under each role
 // that w lies under.
+#![tactic(auto)]
+
 ghost use Rattle.std.specs.Prelude.{◌≡◌, ◌<◌, T};
 ghost use Rattle.bounds.specs.Bounds.{max_roles, role_bits};
 ghost use Rattle.el.specs.Test.{bit};

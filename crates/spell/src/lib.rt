@@ -3,6 +3,8 @@
 // A writer takes the buffer and a pen: how many bytes of the text are still to be passed over, and the first free byte of the buffer. It
 // returns the pen behind its text. A fresh variable is spelt out where it stands, so a text may be far longer than any buffer: of one text
 // any window can be written, and where a window is full nothing more is spelt out.
+#![tactic(auto)]
+
 ghost use Rattle.std.specs.Prelude.{◌≡◌, ◌||◌, cond, [], ◌∷◌, ◌+◌, ◌<◌, ◌≤◌, T, length};
 ghost use Rattle.bounds.specs.Bounds.{set_bits, max_atoms};
 ghost use Rattle.el.specs.Test.{bit};

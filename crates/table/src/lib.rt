@@ -4,6 +4,8 @@
 // after what it read, or the refusal, and rows and lines are read under the header that is handed to them. The crates above ask for a
 // table's counts, for the two roles of a role row, for the role and the filler of a row, and for the byte where a line begins; roles, order,
 // node, level and walk know neither where these stand nor of which version a table is.
+#![tactic(auto)]
+
 ghost use Rattle.std.specs.Prelude.{◌≡◌, ◌≤◌, ◌<◌, T, length, get_or};
 ghost use Rattle.table.specs.Code.{kind_of, role_of, filler_of, entry_of};
 ghost use Rattle.bounds.specs.Bounds.{bounds};
@@ -36,7 +38,7 @@ pub const HEADER: usize = 10;
 pub const ROLE_ROWS: usize = 10;
 
 // The version and the counts of a table: constants c, roles r, variables v, restrictions e, lines m, role rows q.
-#[derive(Drop)]
+#[derive(Clone, Copy)]
 pub struct Header {
     pub version: u8,
     pub c: u8,
@@ -48,7 +50,7 @@ pub struct Header {
 }
 
 // What a code byte stands for, by its range alone.
-#[derive(Drop)]
+#[derive(Clone, Copy)]
 pub enum Kind {
     Top,
     Constant(u8),
@@ -58,14 +60,14 @@ pub enum Kind {
 }
 
 // A step of the reader: the place after what was read, or a refusal.
-#[derive(Drop)]
+#[derive(Clone, Copy)]
 pub enum Step {
     Next(usize),
     Stop(Answer),
 }
 
 // The verdict on a whole table: a refusal, or readable.
-#[derive(Drop)]
+#[derive(Clone, Copy)]
 pub enum Verdict {
     Refused(Answer),
     Readable,

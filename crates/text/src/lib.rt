@@ -1,5 +1,7 @@
 // Answers as text, appended to a buffer that the caller lends. A writer takes the buffer and its first free byte and returns the next
 // one; of a text that is longer than the room left, as much is written as fits.
+#![tactic(auto)]
+
 ghost use Rattle.std.specs.Prelude.{◌≡◌, ◌||◌, cond, [], ◌∷◌, ◌+◌, ◌*◌, ◌≤◌, ◌<◌, T, length};
 ghost use Rattle.el.specs.Test.{bit};
 ghost use Rattle.el.specs.Table.{row_at};

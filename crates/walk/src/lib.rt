@@ -1,5 +1,7 @@
 // The walk goes along the list of nodes. One node is looked at by itself (`look`); siblings are swept over together, since they share a
 // level (`advance`); a state is moved on by a share of nodes (`run`); and the walk is the root's state moved on by the budget (`walk`).
+#![tactic(auto)]
+
 ghost use Rattle.std.specs.Prelude.{◌≡◌, false, ◌+◌, ◌≤◌, ◌<◌, ◌^◌, T, set};
 ghost use Rattle.bounds.specs.Bounds.{max_atoms, max_variables};
 ghost use Rattle.el.specs.Table.{Table, atoms, role_order};
@@ -14,21 +16,21 @@ use level::{Halt, Level};
 use node::{Counts, Prepared, Sets};
 
 // Where a step leads: to the end of the walk, on to a node, or nowhere because no node is left.
-#[derive(Drop)]
+#[derive(Clone, Copy)]
 pub enum Going {
     Solved,
     On,
     Over,
 }
 
-#[derive(Drop)]
+#[derive(Clone, Copy)]
 pub struct Step {
     pub going: Going,
     pub sets: Sets,
 }
 
 // A state of the walk: the node to be examined next, or the one that ended the walk, and how many nodes were examined.
-#[derive(Drop)]
+#[derive(Clone, Copy)]
 pub struct State {
     pub going: Going,
     pub sets: Sets,
@@ -36,14 +38,14 @@ pub struct State {
 }
 
 // How a walk ended: at an assignment, with no node left, or with the budget spent.
-#[derive(Drop)]
+#[derive(Clone, Copy)]
 pub enum End {
     Found,
     Nothing,
     Spent,
 }
 
-#[derive(Drop)]
+#[derive(Clone, Copy)]
 pub struct Walked {
     pub end: End,
     pub count: Count,
@@ -116,7 +118,7 @@ fn look(table: &[u8], counts: Counts, prepared: Prepared, last: SetNumber, sets:
 }
 
 // Where a sweep and the step after it lead, and how many nodes were examined.
-#[derive(Drop)]
+#[derive(Clone, Copy)]
 pub struct Gone {
     pub going: Going,
     pub sets: Sets,

@@ -1,0 +1,25 @@
+-- `level::collect` meets its contract. The invariant: of the first n lines those that pass are listed. The measure is what is left of m.
+use mathlib.Core.Path.{refl, sym, ◌∙◌}
+use mathlib.Core.Logic.{⊎_elim}
+use Prim.Native.Nat.{◌-◌, ◌≤◌}
+use native.Mathlib.Omega.{arith}
+use Rattle.level.specs.Level.{is_fresh, Listed}
+use Rattle.level.specs.ListedLaws.{listed_start, listed_more, listed_skip, listed_whole}
+use Rattle.level.proofs.collect.Goals as goal
+use Rattle.level.proofs.collect.Goals.{then-passes, else-passes}
+
+pub loop-n-init : goal.loop-n-init
+loop-n-init c = (omega arith, listed_start refl)
+
+pub loop-n-preserved : goal.loop-n-preserved
+unfolding is_fresh
+loop-n-preserved c = (
+  omega arith,
+  elim c.if-passes.branch [
+      then-passes w ↦ listed_more c.loop-n.invariant.1 (sym c.passes.ensures ∙ w.if-passes.true) (omega arith) w.fresh-is w.few-is
+    | else-passes w ↦ listed_skip c.loop-n.invariant.1 (sym c.passes.ensures ∙ w.if-passes.false) w.fresh-is w.few-is
+    ],
+)
+
+pub returns : goal.returns
+returns c = (refl, refl, listed_whole c.loop-n.invariant.0 c.loop-n-test.false c.loop-n.invariant.1)

@@ -1,0 +1,32 @@
+-- `table::filler_ok` meets its contract: by the kind of the code.
+use mathlib.Core.Path.{sym, ◌∙◌}
+use Rattle.table.specs.declared.Kind.TheVariants.{Top, Constant, Restriction, Variable, Other}
+use Rattle.table.specs.Code.{filler_of_kind}
+use Rattle.table.specs.Step.{is_some}
+use Rattle.table.proofs.Laws.{some_within, filler_by_lem}
+use Rattle.std.proofs.Common.{rules}
+use Rattle.table.proofs.filler_ok.Goals as goal
+
+pub kind_of-requires : goal.kind_of-requires
+unfolding filler_of_kind is_some
+kind_of-requires c = search rules
+
+pub returns-in-Top : goal.returns-in-Top
+unfolding filler_of_kind is_some
+returns-in-Top c = filler_by_lem _ _ _ Top (sym c.kind_of.ensures ∙ c.in-Top.is)
+
+pub returns-in-Constant : goal.returns-in-Constant
+unfolding filler_of_kind is_some
+returns-in-Constant c = some_within _ _ _ ∙ filler_by_lem _ _ _ (Constant _) (sym c.kind_of.ensures ∙ c.in-Constant.is)
+
+pub returns-in-Restriction : goal.returns-in-Restriction
+unfolding filler_of_kind is_some
+returns-in-Restriction c = filler_by_lem _ _ _ (Restriction _) (sym c.kind_of.ensures ∙ c.in-Restriction.is)
+
+pub returns-in-Variable : goal.returns-in-Variable
+unfolding filler_of_kind is_some
+returns-in-Variable c = some_within _ _ _ ∙ filler_by_lem _ _ _ (Variable _) (sym c.kind_of.ensures ∙ c.in-Variable.is)
+
+pub returns-in-Other : goal.returns-in-Other
+unfolding filler_of_kind is_some
+returns-in-Other c = filler_by_lem _ _ _ Other (sym c.kind_of.ensures ∙ c.in-Other.is)

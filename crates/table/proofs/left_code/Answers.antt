@@ -1,0 +1,16 @@
+-- `table::left_code` meets its contract: the layout says what the byte is.
+use native.Mathlib.Omega.{arith}
+use Rattle.table.specs.LayoutLaws.{begun_inside, left_within, left_writes}
+use Rattle.table.proofs.left_code.Goals as goal
+
+pub overflow_add-result : goal.overflow_add-result
+overflow_add-result c = omega (arith, begun_inside _ c.requires.0 _ c.requires.1)
+
+pub overflow_add-result-2 : goal.overflow_add-result-2
+overflow_add-result-2 c = omega (arith, begun_inside _ c.requires.0 _ c.requires.1, left_within _ c.requires.0 _ _ c.requires.2 c.requires.1)
+
+pub bounds-table-at : goal.bounds-table-at
+bounds-table-at c = omega (arith, begun_inside _ c.requires.0 _ c.requires.1, left_within _ c.requires.0 _ _ c.requires.2 c.requires.1)
+
+pub returns : goal.returns
+returns c = left_writes _ c.requires.0 _ _ c.requires.2

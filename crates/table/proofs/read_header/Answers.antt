@@ -1,0 +1,25 @@
+-- `table::read_header` meets its contract: a law for each refusal, in order, and one for the header that is read.
+use mathlib.Core.Path.{sym, ◌∙◌}
+use native.Mathlib.Omega.{arith}
+use borrow.Author.Tests.{not-true, not-false}
+use Rattle.table.specs.ReadLaws.{header_short, header_mark, header_version}
+use Rattle.table.proofs.Laws.{stops, header_stop, header_cut, header_done}
+use Rattle.table.proofs.read_header.Goals as goal
+
+pub returns-then-table-lt-HEADER : goal.returns-then-table-lt-HEADER
+returns-then-table-lt-HEADER c = stops (header_short _ _ c.if-table-lt-HEADER.true)
+
+pub returns-then-not-mark : goal.returns-then-not-mark
+returns-then-not-mark c = stops (header_mark _ _ (omega arith) (sym c.has_mark-mark.ensures ∙ c.if-not-mark.true))
+
+pub returns-then-not-version : goal.returns-then-not-version
+returns-then-not-version c = stops (header_version _ _ (omega arith) (sym c.has_mark-mark.ensures ∙ c.if-not-mark.false) (sym c.is_version_known-version.ensures ∙ c.if-not-version.true))
+
+pub returns-then-table-end : goal.returns-then-table-end
+returns-then-table-end c = header_cut _ _ c.header_of.ensures (omega arith) (sym c.has_mark-mark.ensures ∙ c.if-not-mark.false) (sym c.is_version_known-version.ensures ∙ c.if-not-version.false) _ (sym c.read_counts.ensures ∙ c.in-Next.is) c.if-table-end.true
+
+pub returns-else-table-end : goal.returns-else-table-end
+returns-else-table-end c = header_done _ _ c.header_of.ensures (omega arith) (sym c.has_mark-mark.ensures ∙ c.if-not-mark.false) (sym c.is_version_known-version.ensures ∙ c.if-not-version.false) _ (sym c.read_counts.ensures ∙ c.in-Next.is) (omega arith)
+
+pub returns-in-Stop : goal.returns-in-Stop
+returns-in-Stop c = header_stop _ _ c.header_of.ensures (omega arith) (sym c.has_mark-mark.ensures ∙ c.if-not-mark.false) (sym c.is_version_known-version.ensures ∙ c.if-not-version.false) _ (sym c.read_counts.ensures ∙ c.in-Stop.is)

@@ -1,0 +1,21 @@
+-- `table::read_rows` meets its contract. The invariant: what is left to read from here is what there was to read from the start;
+-- the measure is how many rows are left.
+use mathlib.Core.Path.{◌≡◌, sym, ◌∙◌}
+use Prim.Native.Nat.{◌-◌, ◌≤◌}
+use native.Mathlib.Omega.{arith}
+use Rattle.table.specs.Reading.{read_rows}
+use Rattle.table.specs.Step.{step_of}
+use Rattle.table.proofs.Laws.{turn_start, turn_end, turn_stop, turn_next}
+use Rattle.table.proofs.read_rows.Goals as goal
+
+pub loop-k-init : goal.loop-k-init
+loop-k-init c = (omega arith, turn_start _ _ _)
+
+pub returns-in-Stop : goal.returns-in-Stop
+returns-in-Stop c = sym (c.loop-k.invariant.1 ∙ turn_stop _ _ _ _ (omega arith) _ (sym c.read_row.ensures ∙ c.in-Stop.is))
+
+pub loop-k-preserved : goal.loop-k-preserved
+loop-k-preserved c = (omega arith, c.loop-k.invariant.1 ∙ turn_next _ _ _ _ (omega arith) _ (sym c.read_row.ensures ∙ c.in-Next.is))
+
+pub returns : goal.returns
+returns c = sym (c.loop-k.invariant.1 ∙ turn_end _ _ _ _ (omega arith))

@@ -3,11 +3,12 @@
 #![tactic(auto)]
 
 ghost use Rattle.std.specs.Prelude.{◌≡◌, ◌≤◌, min, length, take, replicate};
-ghost use Rattle.io.specs.Counts.{IsPrefixLen};
+ghost use Rattle.std.specs.Counts.{IsPrefixLen};
 ghost use Rattle.batch.specs.Question.{most, head_length, line_room, question_of, is_question, read_reply, line_reply, solve_reply, reply};
 
 use bounds::Count;
-use libc::{STDIN_FILENO, STDOUT_FILENO};
+use std::io;
+use std::io::{Read, Write};
 
 // How long a table and an output may be.
 const MOST: usize = 1024;
@@ -19,8 +20,11 @@ const NUMBER: usize = 4;
 
 const LENGTH: usize = 2;
 
+// Room for a line.
+const LINE: usize = 4096;
+
 // A question, but for its table: `number` is the number of a line, or a budget, and `room` the length of the output.
-#[derive(Drop)]
+#[derive(Clone, Copy)]
 pub struct Question {
     pub kind: u8,
     pub number: Count,
@@ -123,46 +127,50 @@ fn reply_to(q: Question, table: &[u8], line: &mut [u8]) -> usize
     solve_reply(table, q.number, &mut output[..room], line)
 }
 
-fn cut() -> bool {
-    io::write_all(STDOUT_FILENO, b"cut\n");
-    false
+fn cut<W: Write>(output: &mut W) -> io::Result<bool> {
+    output.write_all(b"cut\n")?;
+    Ok(false)
 }
 
 // Reads the first `size` bytes of the table. Says whether they were there.
-fn is_read(table: &mut [u8], size: usize) -> bool
+fn is_read<R: Read>(input: &mut R, table: &mut [u8], size: usize) -> io::Result<bool>
     requires { size ≤ length table.old }
 {
-    io::read_full(STDIN_FILENO, &mut table[..size]) == size
+    Ok(input::read_full(input, &mut table[..size])? == size)
 }
 
 // Reads a question and answers it. Says whether to go on.
-fn answer_one() -> bool {
+fn answer_one<R: Read, W: Write>(input: &mut R, output: &mut W) -> io::Result<bool> {
     let mut head = [0u8; HEAD];
-    let got = io::read_full(STDIN_FILENO, &mut head);
+    let got = input::read_full(input, &mut head)?;
     if got == 0 {
-        return false;
+        return Ok(false);
     }
     if got < HEAD {
-        return cut();
+        return cut(output);
     }
     let q = question_of(&head);
     if !is_question(q) {
-        return cut();
+        return cut(output);
     }
     let length = q.length;
     let mut table = zeros();
-    if !is_read(&mut table, length) {
-        return cut();
+    if !is_read(input, &mut table, length)? {
+        return cut(output);
     }
-    let mut line = io::buffer();
+    let mut line = [0u8; LINE];
     let end = reply_to(q, &table[..length], &mut line);
-    io::write_all(STDOUT_FILENO, &line[..end])
+    output.write_all(&line[..end])?;
+    Ok(true)
 }
 
 // A proved loop has to end, and nothing says that a stream does: it ends after 2^64 - 1 questions, which no run reaches.
-fn main() {
+fn main(rt: HostRuntime) -> io::Result<()> {
+    let mut input = rt.stdin();
+    let mut output = rt.stdout();
     let mut left = u64::MAX;
-    while left > 0 && answer_one() {
+    while left > 0 && answer_one(&mut input, &mut output)? {
         left -= 1;
     }
+    Ok(())
 }

@@ -11,7 +11,7 @@ use mathlib.Core.List.{List, [], ◌++◌, append-nil}
 use Prim.Native.Nat.{ℕ, zero, suc, ◌+◌, ◌*◌, ◌-◌, ◌≤◌, ◌<◌}
 use native.Mathlib.Omega.{arith}
 use lib.ListN.{length, take, drop, length-take, length-drop}
-use Rattle.io.specs.Counts.{IsPrefixLen}
+use Rattle.std.specs.Counts.{IsPrefixLen}
 use Rattle.bounds.specs.Bounds.{max_constants, max_variables, max_roles, set_bytes}
 use Rattle.answer.specs.declared.Handed.{Handed}
 use Rattle.answer.specs.Handed.{handed}

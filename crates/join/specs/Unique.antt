@@ -3,7 +3,7 @@
 --   part_unique == two results that meet the promise of `part` are equal: how many bytes there are, and these bytes
 use Rattle.std.specs.Prelude.{◌≡◌, List, ℕ, length, take}
 use Rattle.std.proofs.Common.{sym, ap, ◌∙◌}
-use Rattle.io.specs.Counts.{IsPrefixLen}
+use Rattle.std.specs.Counts.{IsPrefixLen}
 use Rattle.spell.specs.Window.{window}
 use Rattle.join.specs.Join.{join_text}
 

@@ -3,8 +3,9 @@
 // The text is written in windows, one after the other: a fresh variable is spelt out where it stands, so the text may be longer than any buffer.
 #![tactic(auto)]
 
-ghost use Rattle.std.specs.Prelude.{◌≡◌, true, ◌*◌, ◌≤◌, length, take};
-ghost use Rattle.io.specs.Counts.{IsPrefixLen};
+ghost use Rattle.std.specs.Prelude.{◌≡◌, true, ◌*◌, ◌≤◌, length, take, IfOk};
+ghost use Rattle.std.specs.Io.KnownBytes.{Appends};
+ghost use Rattle.std.specs.Counts.{IsPrefixLen};
 ghost use Rattle.bounds.specs.Bounds.{set_bytes, max_variables};
 ghost use Rattle.table.specs.Reading.{table_of};
 ghost use Rattle.output.specs.Written.{set_in};
@@ -15,8 +16,9 @@ ghost use Rattle.join.specs.Join.{numbers_line, join_text};
 ghost use Rattle.join.specs.Part.{Prepared, Solved};
 
 use bounds::Count;
-use libc::{STDIN_FILENO, STDOUT_FILENO};
 use spell::Pen;
+use std::io;
+use std::io::Write;
 
 // The most bytes of a file.
 const MOST: usize = 65536;
@@ -114,56 +116,55 @@ struct Written {
 }
 
 // Writes the text, window after window, until it ends or a write fails.
-fn write_text(
+fn write_text<W: Write>(
+    to: &mut W,
     file: &[u8],
     table: &[u8],
     output: &[u8],
     number: usize,
     count: usize,
     place: usize,
-) -> Written
+) -> io::Result<Written>
     requires { Prepared file.now table.now output.now number count place × (set_bytes * max_variables ≤ length output.now) }
-    ensures { result.whole ≡ true → result.bytes ≡ length (join_text file.now) }
+    ensures bytes { IfOk result (λ w. w.whole ≡ true → w.bytes ≡ length (join_text file.now)) }
+    ensures text { IfOk result (λ w. w.whole ≡ true → Appends (W.contents to.old) (W.contents to.new) (join_text file.now)) }
 {
     let mut buffer = [0u8; WINDOW];
     let mut from = 0;
     loop {
         if LAST < from {
-            return Written {
+            return Ok(Written {
                 whole: false,
                 bytes: from,
-            };
+            });
         }
         let n = part(file, table, output, number, count, place, from, &mut buffer);
-        if !io::write_all(STDOUT_FILENO, &buffer[..n]) {
-            return Written {
-                whole: false,
-                bytes: from,
-            };
-        }
+        to.write_all(&buffer[..n])?;
         from += n;
         if n < WINDOW {
-            return Written {
+            return Ok(Written {
                 whole: true,
                 bytes: from,
-            };
+            });
         }
     }
 }
 
 // Joins a file and writes its text.
-fn write_joined(file: &[u8]) -> Written
-    ensures { result.whole ≡ true → result.bytes ≡ length (join_text file.now) }
+fn write_joined<W: Write>(to: &mut W, file: &[u8]) -> io::Result<Written>
+    ensures bytes { IfOk result (λ w. w.whole ≡ true → w.bytes ≡ length (join_text file.now)) }
+    ensures text { IfOk result (λ w. w.whole ≡ true → Appends (W.contents to.old) (W.contents to.new) (join_text file.now)) }
 {
     let mut table = [0u8; TABLE];
     let mut output = [0u8; OUTPUT];
     if MOST < file.len() {
-        return write_text(file, &table[..0], &output, 0, 0, 0);
+        return write_text(to, file, &table[..0], &output, 0, 0, 0);
     }
     let made = owl_call::owl(file, &mut table);
     let length = made.count;
     if made.number != 0 {
         return write_text(
+            to,
             file,
             &table[..0],
             &output,
@@ -174,6 +175,7 @@ fn write_joined(file: &[u8]) -> Written
     }
     let a = makrothel::solve(&table[..length], BUDGET, &mut output);
     write_text(
+        to,
         file,
         &table[..length],
         &output,
@@ -183,8 +185,9 @@ fn write_joined(file: &[u8]) -> Written
     )
 }
 
-fn main() {
+fn main(rt: HostRuntime) -> io::Result<()> {
     let mut file = [0u8; MOST + 1];
-    let n = io::read_full(STDIN_FILENO, &mut file);
-    write_joined(&file[..n]);
+    let n = input::read_full(&mut rt.stdin(), &mut file)?;
+    write_joined(&mut rt.stdout(), &file[..n])?;
+    Ok(())
 }

@@ -2,12 +2,12 @@
 #![tactic(auto)]
 
 ghost use Rattle.std.specs.Prelude.{◌≡◌, ◌≤◌, length, take};
-ghost use Rattle.io.specs.Counts.{IsPrefixLen};
+ghost use Rattle.std.specs.Counts.{IsPrefixLen};
 ghost use Rattle.text.specs.Room.{listing_room};
 ghost use Rattle.listing.specs.Report.{report_text};
 
 use bounds::Count;
-use libc::{STDIN_FILENO, STDOUT_FILENO};
+use std::io;
 
 // One byte more than the longest readable table has, so that a longer input is answered as a longer one.
 const MOST: usize = table::HEADER
@@ -33,10 +33,10 @@ fn report(table: &[u8], buffer: &mut [u8]) -> usize
     text::listing(table, a, &output, buffer)
 }
 
-fn main() {
+fn main(rt: HostRuntime) -> io::Result<()> {
     let mut table = [0u8; MOST];
-    let n = io::read_full(STDIN_FILENO, &mut table);
+    let n = input::read_full(&mut rt.stdin(), &mut table)?;
     let mut buffer = [0u8; text::LISTING_ROOM];
     let end = report(&table[..n], &mut buffer);
-    io::write_all(STDOUT_FILENO, &buffer[..end]);
+    rt.write_all(&buffer[..end])
 }

@@ -46,4 +46,4 @@ line_part s n = take (line_span s n).length (drop (line_span s n).start s)
 
 -- a reference points to a block of memory and a place in it
 abbrev pub BeginsIn : Bor (List ℕ) → Bor (List ℕ) → ℕ → Type 0
-BeginsIn r t k = (r.ptr.0 ≡ t.ptr.0) × (r.ptr.1 ≡ t.ptr.1 + k)
+BeginsIn r t k = (r.ref_ptr.0 ≡ t.ref_ptr.0) × (r.ref_ptr.1 ≡ t.ref_ptr.1 + k)

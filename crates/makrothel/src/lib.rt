@@ -1,8 +1,6 @@
 // The public calls.
 #![tactic(auto)]
 
-mod c;
-
 ghost use Rattle.std.specs.Prelude.{◌≡◌, ◌*◌, ◌≤◌, length};
 ghost use Rattle.bounds.specs.Bounds.{set_bytes, max_variables};
 ghost use Rattle.answer.specs.Handed.{handed};
@@ -70,12 +68,12 @@ pub fn read(table: &[u8]) -> ReadAnswer
 
 // Where a line lies in its table: the byte where it begins, and its length; zeros where there is none.
 #[derive(Clone, Copy)]
-struct Span {
-    start: usize,
-    length: usize,
+pub struct Span {
+    pub start: usize,
+    pub length: usize,
 }
 
-fn line_span(table: &[u8], n: u32) -> Span
+pub fn line_span(table: &[u8], n: u32) -> Span
     ensures { result ≡ line_span table.now n }
 {
     match table::check(table) {

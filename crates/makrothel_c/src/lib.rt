@@ -1,4 +1,6 @@
 // The public calls for C (include/makrothel.h). A lent slice passes as a pointer and then a length, a lent array as a pointer.
+#![tactic(auto)]
+
 ghost use Rattle.std.specs.Prelude.{◌≡◌};
 ghost use Rattle.answer.specs.Handed.{handed};
 ghost use Rattle.table.specs.Reading.{reading};
@@ -14,7 +16,7 @@ pub extern "C" fn makrothel_read(table: &[u8], numbers: &mut [u64; 7]) -> u32
     ensures number { result ≡ (read_answer (reading table.now)).number }
     ensures numbers { numbers.new ≡ place_and_counts (read_answer (reading table.now)) }
 {
-    let a = crate::read(table);
+    let a = makrothel::read(table);
     *numbers = [
         a.place as u64,
         a.constants as u64,
@@ -34,7 +36,7 @@ pub extern "C" fn makrothel_line(table: &[u8], n: u32, span: &mut [u64; 2]) -> u
     ensures span { span.new ≡ start_and_length (line_span table.now n) }
     ensures part { spanned span.new table.now ≡ line_part table.now n }
 {
-    let line = crate::line_span(table, n);
+    let line = makrothel::line_span(table, n);
     if line.length == 0 {
         *span = [0, 0];
         return 0;
@@ -57,7 +59,7 @@ pub extern "C" fn makrothel_solve(
     ensures numbers { numbers.new ≡ count_and_place (handed (answer table.now budget out.old).says) }
     ensures output { out.new ≡ (answer table.now budget out.old).output }
 {
-    let a = crate::solve(table, budget, out);
+    let a = makrothel::solve(table, budget, out);
     *numbers = [a.count as u64, a.place as u64];
     a.number
 }

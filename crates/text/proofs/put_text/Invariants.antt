@@ -1,0 +1,15 @@
+-- `text::put_text` meets its contract. The invariant: the first i bytes are written. The measure is how many are left.
+use mathlib.Core.List.{List}
+use Prim.Native.Nat.{ℕ, ◌-◌, ◌≤◌}
+use native.Mathlib.Omega.{arith}
+use lib.ListN.{length, take}
+use Rattle.text.specs.AppendLaws.{appended_none, appended_length}
+use Rattle.text.specs.Append.{Appended}
+use Rattle.text.proofs.Laws.{text_turn, all_of}
+use Rattle.text.proofs.put_text.Given as goal
+
+abbrev pub invariant-loop-i : goal.invariant-loop-i
+invariant-loop-i l = (l.i ≤ length l.text) × Appended l.initial.buffer l.at (take l.i l.text) l.buffer l.end
+
+abbrev pub decreases-loop-i : goal.decreases-loop-i
+decreases-loop-i l = length l.text - l.i

@@ -33,6 +33,14 @@ Said k ss = (T (eqb k 16) × T (asks ss)) ⊎ (T (begins_class k) × T (starts_w
 
 said_word : (ss : List Slot) → T (asks ss) → expect 16 ss ≡ stop 11
 unfolding expect takes takes_or takes_more unlisted is_name begins_class begins_item
+said_word [] h = elim h [ ]
+said_word (left_s ∷ ss) h = elim h [ ]
+said_word (right_s ∷ ss) h = elim h [ ]
+said_word (equals_s ∷ ss) h = elim h [ ]
+said_word (label_s ∷ ss) h = elim h [ ]
+said_word (target_s ∷ ss) h = elim h [ ]
+said_word (name_s ∷ ss) h = elim h [ ]
+said_word (ontology_s ∷ ss) h = elim h [ ]
 said_word (role_s ∷ ss) h = refl
 said_word (entity_s ∷ ss) h = refl
 said_word (class_s ∷ ss) h = refl
@@ -76,6 +84,7 @@ unfolding expect
 third k ss = go (begins_class k)
   where
     go : (b : Bool) → T b → elim (b || eqb k 16) [ true ↦ stop 11 | false ↦ expect k ss ] ≡ stop 11
+    go false h = elim h [ ]
     go true h = refl
 
 pub eleven_exactly : (k : ℕ) (ss : List Slot) → T (fit ss) → (expect k ss ≡ stop 11) ↔ Said k ss

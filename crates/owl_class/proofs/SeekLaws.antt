@@ -24,7 +24,6 @@ use Rattle.owl.specs.Conjunct.{Conjunct, a_class, a_restriction, is_zero, is_one
 use Rattle.owl_name.specs.Declared.{one_if}
 use Rattle.owl_name.proofs.RestLaws.{AtToken, token_name, token_goes}
 use Rattle.owl_name.proofs.OrderedLaws.{one_if_le}
-use Rattle.owl_row.proofs.StandLaws as stand
 use Rattle.owl_class.specs.Ends.{rest_tokens, is_conjunct}
 use Rattle.owl_class.specs.Conjuncts.{conjuncts_at, conjunct_at, Reached, NameAt, RoleAt, ConjunctIs}
 use Rattle.owl_class.proofs.EndLaws.{rest_end}

@@ -11,7 +11,6 @@ use native.Mathlib.Omega.{arith}
 use lib.Dec.{eqb, ltb}
 use lib.ListN.{length, take, drop}
 use borrow.Author.Tests.{lt-ltb, ne_eqb}
-use Rattle.owl.specs.Once.{place}
 use Rattle.owl.specs.Tree.{Name}
 use Rattle.owl.specs.Naming.{same_name}
 use Rattle.owl.specs.NamingLaws.{same_name_refl, same_name_means}

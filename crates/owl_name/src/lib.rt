@@ -16,7 +16,7 @@ fn wide(x: u8) -> usize
     x as usize
 }
 
-pub fn is_name_lem(k: u8) -> bool
+pub fn is_name(k: u8) -> bool
     ensures { result ≡ is_name k }
 {
     if k == 13 {
@@ -39,7 +39,7 @@ pub fn sort_after(q: u8, k: u8) -> u8
     if q != 4 {
         return q;
     }
-    if is_name_lem(k) {
+    if is_name(k) {
         return 3;
     }
     q
@@ -118,7 +118,7 @@ fn declares(sort: u8, k: u8, name: &[u8], does: u8, j: u8, token: &[u8]) -> bool
     if does != sort {
         return false;
     }
-    if is_name_lem(j) {
+    if is_name(j) {
         return same_name(k, name, j, token);
     }
     false
@@ -166,7 +166,7 @@ fn is_known(s: &[u8], does: u8, k: u8, name: &[u8]) -> bool
 fn is_undeclared(s: &[u8], does: u8, k: u8, token: &[u8]) -> bool
     ensures { result ≡ (is_name k && not (is_known (names_in s.now) (mentioned does (name_by k token.now)))) }
 {
-    if is_name_lem(k) {
+    if is_name(k) {
         return !is_known(s, does, k, token);
     }
     false

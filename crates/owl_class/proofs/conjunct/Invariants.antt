@@ -1,0 +1,11 @@
+-- The invariant: `Seeking`; the measure is what is left of the text.
+use Prim.Native.Nat.{◌-◌}
+use lib.ListN.{length}
+use Rattle.owl_class.proofs.SeekLaws as laws
+use Rattle.owl_class.proofs.conjunct.Given as goal
+
+abbrev pub invariant-loop-from : goal.invariant-loop-from
+invariant-loop-from l = laws.Seeking l.s l.from l.i l.at l.outer l.inner l.does l.count
+
+abbrev pub decreases-loop-from : goal.decreases-loop-from
+decreases-loop-from l = length l.s - l.at

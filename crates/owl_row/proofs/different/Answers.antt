@@ -1,0 +1,35 @@
+-- The invariant: `Counting`; the measure is what is left of the text.
+use native.Mathlib.Omega.{arith}
+use Rattle.owl_name.proofs.RestLaws as rests
+use Rattle.owl_row.proofs.CountLaws as laws
+use Rattle.owl_row.proofs.different.Goals as goal
+
+pub loop-limit-init : goal.loop-limit-init
+loop-limit-init c = laws.counting_start _ _
+
+pub token_at-t-requires : goal.token_at-t-requires
+token_at-t-requires c = c.loop-limit.invariant.within
+
+pub returns-then-kind-eq0 : goal.returns-then-kind-eq0
+returns-then-kind-eq0 c = laws.counting_end _ _ _ _ _ _ _ _ c.loop-limit.invariant (c.token_at-t.ensures.0, c.token_at-t.ensures.1, c.token_at-t.ensures.2) c.if-kind-eq0.true
+
+pub returns-then-limit-place : goal.returns-then-limit-place
+returns-then-limit-place c = laws.counting_limit _ _ _ _ _ _ _ _ c.loop-limit.invariant (c.token_at-t.ensures.0, c.token_at-t.ensures.1, c.token_at-t.ensures.2) c.if-limit-place.true
+
+pub slice_bounds-adds-count : goal.slice_bounds-adds-count
+slice_bounds-adds-count c = rests.token_order _ _ _ _ _ (c.token_at-t.ensures.0, c.token_at-t.ensures.1, c.token_at-t.ensures.2)
+
+pub slice_bounds-adds-start : goal.slice_bounds-adds-start
+slice_bounds-adds-start c = rests.token_order _ _ _ _ _ (c.token_at-t.ensures.0, c.token_at-t.ensures.1, c.token_at-t.ensures.2)
+
+pub adds-count-requires : goal.adds-count-requires
+adds-count-requires c = c.token_at-t.ensures.3
+
+pub overflow_add-count : goal.overflow_add-count
+overflow_add-count c = let few = laws.counting_few _ _ _ _ _ c.loop-limit.invariant in let goes = rests.token_goes _ _ _ _ _ (c.token_at-t.ensures.0, c.token_at-t.ensures.1, c.token_at-t.ensures.2) c.loop-limit.invariant.within c.if-kind-eq0.false in omega arith
+
+pub loop-limit-smaller : goal.loop-limit-smaller
+loop-limit-smaller c = let goes = rests.token_goes _ _ _ _ _ (c.token_at-t.ensures.0, c.token_at-t.ensures.1, c.token_at-t.ensures.2) c.loop-limit.invariant.within c.if-kind-eq0.false in omega arith
+
+pub loop-limit-preserved : goal.loop-limit-preserved
+loop-limit-preserved c = laws.counting_turn _ _ _ _ _ _ _ _ _ _ c.loop-limit.invariant (c.token_at-t.ensures.0, c.token_at-t.ensures.1, c.token_at-t.ensures.2) c.token_at-t.ensures.3 c.if-kind-eq0.false c.if-limit-place.false c.sort_after-does.ensures c.adds-count.ensures.0

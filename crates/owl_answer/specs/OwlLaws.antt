@@ -177,19 +177,22 @@ module _ (f : File) (known : T (all_known f)) where
 pub owl_table_lem : {s out : List ℕ} {a : Owl} → OwlAt s out a → a.number ≡ 0 → (f : File) × Made s out a f
 owl_table_lem (spoiled x) z = absurd (x z)
 owl_table_lem (unknown e h) z = absurd (let w : ⊥ = omega arith in w)
-owl_table_lem (said f h e (over x)) z = absurd (let w : ⊥ = omega arith in w)
-owl_table_lem (said f h e (short x k)) z = absurd (let w : ⊥ = omega arith in w)
-owl_table_lem {s} {out} (said f h e (made x k)) z =
-    let known = (undeclared_means s f h).0 e in let b = bytes_of 1 (flat_table f) in (
-      f,
-      record {
-        says = h;
-        known = known;
-        written = refl;
-        table = subst (λ (l : List ℕ). IsTable l (flat_table f)) (sym (take-append_seam b (drop (length b) out))) (is_table f known x);
-        worth = solvable f known;
-      },
-    )
+owl_table_lem {s} {out} (said f h e at) z = go at z
+  where
+    go : {b : Owl} → TableAt (flat_table f) out b → b.number ≡ 0 → (g : File) × Made s out b g
+    go (over x) k = absurd (let w : ⊥ = omega arith in w)
+    go (short x l) k = absurd (let w : ⊥ = omega arith in w)
+    go (made x l) k =
+        let known = (undeclared_means s f h).0 e in let b = bytes_of 1 (flat_table f) in (
+          f,
+          record {
+            says = h;
+            known = known;
+            written = refl;
+            table = subst (λ (l : List ℕ). IsTable l (flat_table f)) (sym (take-append_seam b (drop (length b) out))) (is_table f known x);
+            worth = solvable f known;
+          },
+        )
 
 -- what the solver answers to the table that was made
 module _ {s out : List ℕ} {a : Owl} {f : File} (is : Made s out a f) (b : ℕ) (room : List ℕ) (enough : set_bytes * (flat_table f).variables ≤ length room) where

@@ -11,13 +11,13 @@ use Rattle.el.specs.Test.{any_below, all_below, any_of, every_of, bit}
 use Rattle.el.specs.Description.{same_role}
 use Rattle.el.specs.Roles.{reaches_role}
 use Rattle.el.specs.Table.{Table, row_at, atoms, declared, role_order}
-use Rattle.el.specs.RoleLaws.{role_order_refl, role_order_trans}
+use Rattle.el.proofs.RoleLaws.{role_order_refl, role_order_trans}
 use Rattle.el.specs.Meaning.{holds}
 use Rattle.el.specs.Assignment.{Assignment, set_of, depends, path, reaches, acyclic, atom_under, conjoin, set_under, induced_to, induced, Solves, solves}
 use Rattle.el.specs.Walk.{chosen, line_variables, settled, ready, fails, dead, full, ends, in_turn, tree_of, nodes, up_to_first, first_of, examined, count, solved, outcome}
-use Rattle.el.specs.OutcomeLaws.{outcome_says}
+use Rattle.el.proofs.OutcomeLaws.{outcome_says}
 use Rattle.el.specs.First.{OutcomeSays}
-use Rattle.el.specs.LocalityLaws.{solves_means}
+use Rattle.el.proofs.LocalityLaws.{solves_means}
 use Rattle.table.specs.Bytes.{counts_of}
 use Rattle.text.specs.Text.{decimal_to, decimal, behind, joined, numbers_text}
 use Rattle.text.specs.Listing.{atoms_in}

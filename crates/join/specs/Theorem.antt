@@ -21,8 +21,8 @@ use Rattle.std.proofs.Math.Pow.{pow_mono}
 use Rattle.bounds.specs.Bounds.{max_atoms, max_variables, max_role_rows, set_bytes, set_numbers}
 use Rattle.el.specs.TestLaws.{every_of_at}
 use Rattle.el.specs.Table.{Table, atoms, declared, role_order}
-use Rattle.el.specs.ReachLaws.{acyclic_means}
-use Rattle.el.specs.RoleLaws.{role_order_refl, role_order_trans}
+use Rattle.el.proofs.ReachLaws.{acyclic_means}
+use Rattle.el.proofs.RoleLaws.{role_order_refl, role_order_trans}
 use Rattle.el.specs.Assignment.{Assignment, IsAssignment, set_of, Solves, induced}
 use Rattle.el.specs.Locality.{Solvable}
 use Rattle.el.specs.Meaning.{Substitution}

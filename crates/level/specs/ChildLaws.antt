@@ -16,10 +16,10 @@ use Rattle.el.specs.TestLaws.{true_is, false_not, any_below_same}
 use Rattle.el.specs.Table.{Line, Table, declared, role_order}
 use Rattle.el.specs.Meaning.{holds}
 use Rattle.el.specs.Assignment.{acyclic, induced}
-use Rattle.el.specs.ReachLaws.{acyclic_same}
+use Rattle.el.proofs.ReachLaws.{acyclic_same}
 use Rattle.el.specs.Walk.{Node, dead}
-use Rattle.el.specs.NodeLaws.{dead_cyclic}
-use Rattle.el.specs.ChildLaws.{child_acyclic, child_open, child_dead}
+use Rattle.el.proofs.NodeLaws.{dead_cyclic}
+use Rattle.el.proofs.ChildLaws.{child_acyclic, child_open, child_dead}
 use Rattle.el.specs.Below.{child_of, newly, freshly}
 use Rattle.table.specs.Reading.{table_of, header_of}
 use Rattle.table.specs.Layout.{line_at}

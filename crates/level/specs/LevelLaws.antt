@@ -17,10 +17,10 @@ use Rattle.el.specs.Test.{any_below, all_below, bit}
 use Rattle.el.specs.TestLaws.{is_true, is_false, true_is, same_test, or_left, or_right, or_cases, and_make, and_left, and_right, any_below_hit, any_below_found, all_below_all, all_below_at}
 use Rattle.el.specs.Table.{Table, declared}
 use Rattle.el.specs.Assignment.{Reaches, set_of, depends, reaches}
-use Rattle.el.specs.ReachLaws.{reaches_first, depends_declared, reaches_declared, reaches_means}
+use Rattle.el.proofs.ReachLaws.{reaches_first, depends_declared, reaches_declared, reaches_means}
 use Rattle.el.specs.Walk.{Node, line_variables}
 use Rattle.el.specs.Below.{child_of, newly, freshly}
-use Rattle.el.specs.NodeLaws.{depends_unchosen}
+use Rattle.el.proofs.NodeLaws.{depends_unchosen}
 use Rattle.table.specs.Layout.{line_at}
 use Rattle.node.specs.Node.{DependsGiven}
 use Rattle.node.specs.Mask.{Masks, Fills, LineMasks}

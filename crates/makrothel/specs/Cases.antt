@@ -21,7 +21,7 @@ use Rattle.el.specs.Table.{Table, row_at, atoms, declared, role_order}
 use Rattle.el.specs.Meaning.{holds}
 use Rattle.el.specs.Assignment.{set_of, depends, path, reaches, acyclic, atom_under, conjoin, set_under, induced_to, induced}
 use Rattle.el.specs.Walk.{chosen, line_variables, settled, ready, fails, dead, full, ends, in_turn, tree_of, nodes, up_to_first, first_of, examined, count, Outcome, solved, nothing, budget, outcome}
-use Rattle.el.specs.OutcomeLaws.{more_budget}
+use Rattle.el.proofs.OutcomeLaws.{more_budget}
 use Rattle.answer.specs.declared.Answer.{Answer}
 use Rattle.answer.specs.declared.Answer.TheVariants.{EndsEarly, WrongVersion, OverBound, NotAllowed}
 use Rattle.answer.specs.Handed.{handed}

@@ -22,8 +22,8 @@ use Rattle.el.specs.Assignment.{Assignment, Solves, solves, Before}
 use Rattle.el.specs.Walk.{Outcome, solved, nothing, budget, outcome}
 use Rattle.el.specs.CountingLaws.{counting_order}
 use Rattle.el.specs.CountLaws.{count_some}
-use Rattle.el.specs.LocalityLaws.{solves_means}
-use Rattle.el.specs.OutcomeLaws.{outcome_says, outcome_beyond}
+use Rattle.el.proofs.LocalityLaws.{solves_means}
+use Rattle.el.proofs.OutcomeLaws.{outcome_says, outcome_beyond}
 use Rattle.el.specs.First.{OutcomeSays}
 use Rattle.answer.specs.declared.Answer.{Answer}
 use Rattle.answer.specs.declared.Answer.TheVariants.{Solved, Nothing, Budget}

@@ -11,12 +11,12 @@ use Rattle.std.proofs.Math.Path.{sym, ap, subst}
 use Rattle.std.proofs.Common.{◌∙◌, inl, inr, arith}
 use Rattle.std.proofs.Math.Dec.{T}
 use Rattle.bounds.specs.Bounds.{set_bytes}
-use Rattle.el.specs.RoleLaws.{role_order_refl, role_order_trans}
+use Rattle.el.proofs.RoleLaws.{role_order_refl, role_order_trans}
 use Rattle.el.specs.Table.{Table, declared, role_order}
 use Rattle.el.specs.Meaning.{Substitution, makes}
 use Rattle.el.specs.Assignment.{Assignment, IsAssignment, induced}
-use Rattle.el.specs.LocalityLaws.{locality, solving_substitution}
-use Rattle.el.specs.GrowthLaws.{order_grown, growth_back, growth_same}
+use Rattle.el.proofs.LocalityLaws.{locality, solving_substitution}
+use Rattle.el.proofs.GrowthLaws.{order_grown, growth_back, growth_same}
 use Rattle.answer.specs.declared.Answer.{Answer}
 use Rattle.answer.specs.declared.Answer.TheVariants.{Solved, Nothing}
 use Rattle.answer.specs.Handed.{handed}

@@ -15,7 +15,7 @@ use Rattle.el.specs.Table.{Table, atoms, role_order}
 use Rattle.el.specs.Assignment.{Assignment, IsAssignment}
 use Rattle.el.specs.Walk.{Outcome, solved, nothing, budget, outcome}
 use Rattle.el.specs.First.{OutcomeSays}
-use Rattle.el.specs.OutcomeLaws.{outcome_says}
+use Rattle.el.proofs.OutcomeLaws.{outcome_says}
 use Rattle.answer.specs.declared.Answer.{Answer}
 use Rattle.answer.specs.declared.Answer.TheVariants.{Solved}
 use Rattle.answer.specs.Handed.{handed}

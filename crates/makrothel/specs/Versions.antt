@@ -8,7 +8,7 @@ use Rattle.std.proofs.Math.Bool.{cond}
 use Rattle.el.specs.Description.{same_role}
 use Rattle.el.specs.Roles.{RoleRow}
 use Rattle.el.specs.Table.{role_order}
-use Rattle.el.specs.RoleLaws.{no_role_rows}
+use Rattle.el.proofs.RoleLaws.{no_role_rows}
 use Rattle.table.specs.Reading.{byte_at, role_rows_place, has_role_rows, role_count, header_of, reading, is_readable, table_of}
 use Rattle.table.specs.LayoutLaws.{layout}
 

@@ -25,10 +25,10 @@ use Rattle.el.specs.TestLaws.{is_true, same_test, any_of_places, every_of_all}
 use Rattle.el.specs.Table.{constant, Line, Table, declared, role_order}
 use Rattle.el.specs.Meaning.{holds}
 use Rattle.el.specs.Assignment.{Assignment, set_of, acyclic, induced}
-use Rattle.el.specs.ReachLaws.{acyclic_same}
-use Rattle.el.specs.InducedLaws.{induced_same}
+use Rattle.el.proofs.ReachLaws.{acyclic_same}
+use Rattle.el.proofs.InducedLaws.{induced_same}
 use Rattle.el.specs.Walk.{line_variables, settled, ready, fails, dead}
-use Rattle.el.specs.NodeLaws.{line_same, dead_cyclic, dead_lines}
+use Rattle.el.proofs.NodeLaws.{line_same, dead_cyclic, dead_lines}
 use Rattle.bounds.specs.Bounds.{max_restrictions, max_atoms, max_variables, max_lines}
 use Rattle.table.specs.Layout.{Layout, line_at, line_start}
 use Rattle.table.specs.Reading.{table_of, header_of}

@@ -13,7 +13,7 @@ use Rattle.el.specs.Test.{any_below, bit}
 use Rattle.el.specs.TestLaws.{and_left, any_below_same}
 use Rattle.el.specs.Table.{Table, row_at}
 use Rattle.el.specs.Assignment.{Assignment, set_of, is_variable, depends}
-use Rattle.el.specs.NodeLaws.{depends_unchosen}
+use Rattle.el.proofs.NodeLaws.{depends_unchosen}
 use Rattle.node.specs.Mask.{Fills}
 use Rattle.node.specs.Marks.{depends_by, depends_in}
 

@@ -20,8 +20,8 @@ use Rattle.el.specs.Test.{any_below, bit}
 use Rattle.el.specs.TestLaws.{true_is, false_not, bit_none, same_test, or_left, or_right, or_cases, and_make, and_left, and_right, any_below_next, any_below_hit, any_below_found}
 use Rattle.el.specs.Assignment.{Reaches, once, then}
 use Rattle.el.specs.BitLaws.{bit_of_or}
-use Rattle.el.specs.CircleLaws.{reaches_along}
-use Rattle.el.specs.InducedLaws.{count_below_lt, count_below_all}
+use Rattle.el.proofs.CircleLaws.{reaches_along}
+use Rattle.el.proofs.InducedLaws.{count_below_lt, count_below_all}
 use Rattle.el.specs.Rank.{count_below}
 use Rattle.node.specs.Mask.{Masks, Picks}
 use Rattle.node.specs.MaskLaws.{masks_none, bit_added, bit_kept, meet_found, meet_hit, same_bits}

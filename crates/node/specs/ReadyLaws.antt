@@ -12,9 +12,9 @@ use Rattle.el.specs.Test.{bit}
 use Rattle.el.specs.TestLaws.{same_test, and_make, and_left, and_right}
 use Rattle.el.specs.Table.{Table, declared}
 use Rattle.el.specs.Assignment.{Reaches, depends, reaches}
-use Rattle.el.specs.ReachLaws.{reaches_declared, reaches_means}
+use Rattle.el.proofs.ReachLaws.{reaches_declared, reaches_means}
 use Rattle.el.specs.Walk.{Node, settled}
-use Rattle.el.specs.NodeLaws.{settled_chosen, settled_reached, settled_make}
+use Rattle.el.proofs.NodeLaws.{settled_chosen, settled_reached, settled_make}
 use Rattle.bounds.specs.Bounds.{max_variables}
 use Rattle.node.specs.Mask.{Masks, Fills}
 use Rattle.node.specs.Marks.{depends_in, LeadsInto}

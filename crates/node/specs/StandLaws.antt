@@ -14,10 +14,10 @@ use Rattle.el.specs.TestLaws.{is_false, true_is, false_not, same_test, and_make,
 use Rattle.el.specs.Table.{Table}
 use Rattle.el.specs.Assignment.{Acyclic, Reaches, once, depends, acyclic}
 use Rattle.el.specs.BitLaws.{bit_of_and}
-use Rattle.el.specs.CircleLaws.{reaches_along}
-use Rattle.el.specs.ReachLaws.{acyclic_says}
+use Rattle.el.proofs.CircleLaws.{reaches_along}
+use Rattle.el.proofs.ReachLaws.{acyclic_says}
 use Rattle.el.specs.Standing.{standing}
-use Rattle.el.specs.StandingLaws.{stood, stands_step, stands_make, struck_exactly, standing_stays}
+use Rattle.el.proofs.StandingLaws.{stood, stands_step, stands_make, struck_exactly, standing_stays}
 use Rattle.node.specs.declared.Sets.{Sets}
 use Rattle.node.specs.Node.{node_of}
 use Rattle.node.specs.Mask.{Masks, Picks, Fills}

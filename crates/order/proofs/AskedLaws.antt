@@ -15,7 +15,7 @@ use lib.Dec.{T, eqb, ltb}
 use lib.ListN.{get_or}
 use lib.Bits.{bit_and}
 use borrow.Author.Tests.{lt-ltb, le-ltb}
-use Rattle.el.specs.RoleLaws.{role_order_refl}
+use Rattle.el.proofs.RoleLaws.{role_order_refl}
 use Rattle.el.specs.Test.{any_below, all_below, bit}
 use Rattle.el.specs.TestLaws.{is_true, true_is, same_test, false_not, any_below_hit, any_below_found, any_below_same, any_below_true_at, all_below_same}
 use Rattle.el.specs.Table.{Filler, Table, row_at, atoms, role_order}

@@ -20,7 +20,7 @@ use Rattle.bounds.specs.WidthLaws.{power_fits}
 use Rattle.el.specs.Test.{any_below, bit}
 use Rattle.el.specs.TestLaws.{true_is, false_not, and_left, any_below_none, any_below_same, any_below_true_at, bit_none, bit_first, bit_next}
 use Rattle.el.specs.BitLaws.{bit_power, bit_of_xor}
-use Rattle.el.specs.InducedLaws.{count_below_lt}
+use Rattle.el.proofs.InducedLaws.{count_below_lt}
 use Rattle.el.specs.Rank.{count_below}
 use Rattle.order.specs.Asked.{any_in, Lowest}
 

@@ -29,12 +29,12 @@ use borrow.Author.Tests.{ne_eqb, ltb-true, ltb-false}
 use Rattle.el.specs.Test.{any_below, all_below, any_of, every_of, bit}
 use Rattle.el.specs.TestLaws.{is_true, same_test, true_is, and_make, and_left, and_right, any_below_hit, any_below_found, any_below_none, any_below_same, any_below_true_at, any_of_places, all_below_at, all_below_all, all_below_same, all_below_every, bit_none}
 use Rattle.el.specs.Description.{Description, top, name, meet, some, below}
-use Rattle.el.specs.OrderLaws.{below_refl}
+use Rattle.el.proofs.OrderLaws.{below_refl}
 use Rattle.el.specs.Table.{Filler, top_f, constant_f, variable_f, Entry, constant, restriction, variable, Row, Line, Table, row_at, atoms, filler_declared, entry_declared, line_declared, declared}
 use Rattle.el.specs.Meaning.{Substitution, filler_under, row_under, entry_under, left_under, holds}
 use Rattle.el.specs.Assignment.{Assignment, set_of, acyclic, atom_under, conjoin, set_under, induced_to, induced}
 use Rattle.el.specs.TableLaws.{row_declared_lem}
-use Rattle.el.specs.InducedLaws.{conjoin_below, conjoin_name, conjoin_some, atom_under_constant, atom_under_row, induced_at}
+use Rattle.el.proofs.InducedLaws.{conjoin_below, conjoin_name, conjoin_some, atom_under_constant, atom_under_row, induced_at}
 use Rattle.el.specs.BitLaws.{bit_power, bit_of_or}
 use Rattle.order.specs.Rule.{filler_set, entry_set, union_to, left_set, atom_row, flat_test, atom_test, set_test, filler_test, entry_test, left_test, line_test}
 

@@ -15,7 +15,7 @@ use Rattle.std.proofs.Math.Dec.{eqb_refl}
 use Rattle.el.specs.Test.{every_of}
 use Rattle.el.specs.TestLaws.{and_make, and_left, and_right}
 use Rattle.el.specs.Description.{Description, top, name, meet, some, below}
-use Rattle.el.specs.OrderLaws.{below_left, below_right, below_refl, below_trans}
+use Rattle.el.proofs.OrderLaws.{below_left, below_right, below_refl, below_trans}
 use Rattle.el.specs.Table.{Filler, top_f, constant_f, variable_f, Entry, variable, Row, Line, row_at}
 use Rattle.el.specs.Meaning.{Substitution, filler_under, row_under, entry_under, left_under, holds}
 use Rattle.owl.specs.Once.{is_among, place}

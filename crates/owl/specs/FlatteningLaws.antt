@@ -19,7 +19,7 @@ use Rattle.el.specs.Description.{Description, top, name, meet, some, below}
 use Rattle.el.specs.Table.{Row, declared}
 use Rattle.el.specs.Meaning.{Substitution, holds, makes}
 use Rattle.el.specs.Locality.{Unifiable, Solvable}
-use Rattle.el.specs.LocalityLaws.{local_iff}
+use Rattle.el.proofs.LocalityLaws.{local_iff}
 use Rattle.owl.specs.OnceLaws.{every_join}
 use Rattle.owl.specs.Tree.{Name, Class, named, intersection_of, some_values_from, Classes, last, more, Axiom, sub_class_of, equivalent_classes, File, axioms_of}
 use Rattle.owl.specs.Naming.{is_thing, is_open, Names, names_of, constant_number, open_number, role_number, all_known}

@@ -11,12 +11,12 @@ use Rattle.std.proofs.Common.{arith, ltb→lt, T_not}
 use Rattle.el.specs.Test.{any_of, any_below, all_below, every_of, bit}
 use Rattle.el.specs.TestLaws.{and_left, and_right, all_below_at}
 use Rattle.el.specs.Description.{same_role}
-use Rattle.el.specs.OrderLaws.{same_role_refl, same_role_trans}
+use Rattle.el.proofs.OrderLaws.{same_role_refl, same_role_trans}
 use Rattle.el.specs.Table.{Filler, constant_f, variable_f, Entry, constant, restriction, variable, Row, Line, Table, row_at, atoms}
 use Rattle.el.specs.Meaning.{holds, makes}
 use Rattle.el.specs.Assignment.{Assignment, set_of, IsAssignment, depends, path, reaches, acyclic, atom_under, conjoin, set_under, induced_to, induced, solves}
 use Rattle.el.specs.Locality.{Solvable}
-use Rattle.el.specs.LocalityLaws.{solves_means}
+use Rattle.el.proofs.LocalityLaws.{solves_means}
 use Rattle.owl.specs.Once.{is_among, place, once}
 use Rattle.owl.specs.Tree.{Name, short, named, intersection_of, some_values_from, last, sub_class_of, equivalent_classes, class, object_property, declaration, stated, no_name, File, axioms_of, classes_of, properties_of}
 use Rattle.owl.specs.Naming.{same_bytes, begins_with, thing_bytes, open_bytes, keep, names_of, constant_number, open_number, role_number, class_known, role_known, all_known}

@@ -17,7 +17,7 @@ use Rattle.el.specs.Test.{every_of}
 use Rattle.el.specs.TestLaws.{and_make, every_of_both}
 use Rattle.el.specs.Table.{Line, Table, declared, line_declared, role_order}
 use Rattle.el.specs.Description.{same_role}
-use Rattle.el.specs.RoleLaws.{no_role_rows, role_order_refl, role_order_trans}
+use Rattle.el.proofs.RoleLaws.{no_role_rows, role_order_refl, role_order_trans}
 use Rattle.el.specs.TableLaws.{role_rows_declared, rows_declared, lines_declared}
 use Rattle.el.specs.Assignment.{Assignment, Solves, induced}
 use Rattle.el.specs.Locality.{Solvable}

@@ -17,7 +17,7 @@ use borrow.Author.Tests.{lt-ltb}
 use Rattle.el.specs.Test.{every_of}
 use Rattle.el.specs.TestLaws.{and_make, and_left, and_right, true_is, every_of_both}
 use Rattle.el.specs.Table.{Filler, top_f, constant_f, variable_f, Entry, constant, restriction, variable, Row, Line, Table, filler_declared, row_declared, entry_declared, line_declared, declared, role_order}
-use Rattle.el.specs.RoleLaws.{role_order_refl, role_order_trans}
+use Rattle.el.proofs.RoleLaws.{role_order_refl, role_order_trans}
 use Rattle.el.specs.TableLaws.{rows_declared, lines_declared}
 use Rattle.bounds.specs.Bounds.{max_constants, max_restrictions, max_atoms, max_roles, max_variables, max_lines, max_role_rows}
 use Rattle.table.specs.Reading.{has_role_rows}

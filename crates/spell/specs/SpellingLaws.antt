@@ -20,7 +20,7 @@ use Rattle.el.specs.Table.{Filler, top_f, constant_f, variable_f, Table, row_at,
 use Rattle.el.specs.TableLaws.{rows_declared}
 use Rattle.el.specs.Assignment.{Assignment, set_of, is_variable, depends, acyclic}
 use Rattle.el.specs.Rank.{rank}
-use Rattle.el.specs.InducedLaws.{rank_falls, rank_below}
+use Rattle.el.proofs.InducedLaws.{rank_falls, rank_below}
 use Rattle.text.specs.Text.{newline}
 use Rattle.text.specs.Listing.{atoms_in}
 use Rattle.owl.specs.Naming.{Names}

@@ -15,8 +15,8 @@ use Rattle.el.specs.Meaning.{holds}
 use Rattle.el.specs.Assignment.{reaches, acyclic, induced}
 use Rattle.el.specs.Walk.{Node, line_variables, settled, ready, fails, dead}
 use Rattle.el.specs.TestLaws.{is_true, true_is, false_not, same_test, or_left, or_right, and_make, and_left, and_right, any_of_hit, any_of_same, every_of_at, every_of_all}
-use Rattle.el.specs.ReachLaws.{reaches_means}
-use Rattle.el.specs.NodeLaws.{set_stays, append_adds, reaches_stays, acyclic_stays, settled_chosen, settled_reached, settled_make, holds_stays, dead_lines}
+use Rattle.el.proofs.ReachLaws.{reaches_means}
+use Rattle.el.proofs.NodeLaws.{set_stays, append_adds, reaches_stays, acyclic_stays, settled_chosen, settled_reached, settled_make, holds_stays, dead_lines}
 use Rattle.el.specs.Below.{no_line, child_of, touches}
 
 module _ (t : Table) (known : T (declared t)) (p : Node) (x : ℕ) where

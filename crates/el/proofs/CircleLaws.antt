@@ -9,7 +9,7 @@ use Rattle.std.proofs.Math.Decide.{ℕ_discrete}
 use Rattle.std.proofs.Math.Dec.{not_T}
 use Rattle.el.specs.TestLaws.{true_is, or_left, or_right, or_cases, and_make, and_left, and_right}
 use Rattle.el.specs.Assignment.{Reaches, once, then}
-use Rattle.el.specs.ReachLaws.{reaches_join}
+use Rattle.el.proofs.ReachLaws.{reaches_join}
 use Rattle.el.specs.Standing.{Stand}
 
 pub reaches_along : {d e : ℕ → ℕ → Bool} → ((x y : ℕ) → T (d x y) → Reaches e x y) → {x y : ℕ} → Reaches d x y → Reaches e x y

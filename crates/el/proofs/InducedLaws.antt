@@ -34,8 +34,8 @@ use Rattle.el.specs.Description.{Description, top, name, meet, some, has_name, h
 use Rattle.el.specs.Table.{Filler, top_f, constant_f, variable_f, Table, row_at, atoms, declared}
 use Rattle.el.specs.Meaning.{Substitution, filler_under, row_under}
 use Rattle.el.specs.Assignment.{Assignment, set_of, is_variable, depends, Reaches, once, then, reaches, acyclic, atom_under, conjoin, set_under, induced_to, induced}
-use Rattle.el.specs.ReachLaws.{depends_declared, depends_reaches, reaches_trans}
-use Rattle.el.specs.OrderLaws.{below_left, below_right, below_refl}
+use Rattle.el.proofs.ReachLaws.{depends_declared, depends_reaches, reaches_trans}
+use Rattle.el.proofs.OrderLaws.{below_left, below_right, below_refl}
 use Rattle.el.specs.Rank.{one, count_below, rank}
 
 ----------------------------------------------------------------------------------------------------

@@ -13,20 +13,20 @@ use Rattle.std.proofs.Common.{inl, inr, arith, eqb→eq, ltb→lt, T_not}
 use Rattle.el.specs.Test.{any_below, all_below, every_of, bit}
 use Rattle.el.specs.TestLaws.{or_cases, and_left, false_not, all_below_at}
 use Rattle.el.specs.Description.{same_role}
-use Rattle.el.specs.OrderLaws.{same_role_refl, same_role_trans}
+use Rattle.el.proofs.OrderLaws.{same_role_refl, same_role_trans}
 use Rattle.el.specs.Roles.{RoleRow, ReachesRole, reaches_role}
-use Rattle.el.specs.RoleLaws.{reaches_role_lem}
+use Rattle.el.proofs.RoleLaws.{reaches_role_lem}
 use Rattle.el.specs.Table.{Table, row_at, atoms, declared}
 use Rattle.el.specs.Meaning.{holds, makes}
 use Rattle.el.specs.Assignment.{Assignment, set_of, IsAssignment, depends, path, Reaches, reaches, Acyclic, acyclic, atom_under, conjoin, set_under, induced_to, induced, Solves, solves}
-use Rattle.el.specs.ReachLaws.{acyclic_means}
-use Rattle.el.specs.CircleLaws.{circle_some}
+use Rattle.el.proofs.ReachLaws.{acyclic_means}
+use Rattle.el.proofs.CircleLaws.{circle_some}
 use Rattle.el.specs.Standing.{Stand, standing}
-use Rattle.el.specs.StandingLaws.{stands_below, struck_exactly}
+use Rattle.el.proofs.StandingLaws.{stands_below, struck_exactly}
 use Rattle.el.specs.Locality.{number, list_to, local_set, local_assignment, IsLocal, Unifiable, Solvable}
-use Rattle.el.specs.LocalityLaws.{locality, local_iff, solves_means}
+use Rattle.el.proofs.LocalityLaws.{locality, local_iff, solves_means}
 use Rattle.el.specs.Growth.{Grows}
-use Rattle.el.specs.GrowthLaws.{growth_back, growth_same, growth_back_solving, growth_same_solving}
+use Rattle.el.proofs.GrowthLaws.{growth_back, growth_same, growth_back_solving, growth_same_solving}
 use Rattle.el.specs.Examples.{p5, p6, p12, more, most, deep}
 
 p5_declared : T (declared p5)

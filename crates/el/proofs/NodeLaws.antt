@@ -28,9 +28,9 @@ use Rattle.el.specs.Meaning.{Substitution, filler_under, entry_under, left_under
 use Rattle.el.specs.Assignment.{Assignment, set_of, depends, is_variable, Reaches, once, then, reaches, acyclic, set_under, induced_to, induced, solves}
 use Rattle.el.specs.Walk.{Node, chosen, filler_variables, entry_variables, entries_variables, line_variables, settled, ready, fails, dead, full, ends}
 use Rattle.el.specs.TestLaws.{is_true, is_false, true_is, false_not, same_test, or_cases, and_make, and_left, and_right, any_below_none, any_below_hit, any_below_found, all_below_all, all_below_at, any_of_found, any_of_hit, every_of_at, every_of_all, every_of_append, bit_none}
-use Rattle.el.specs.InducedLaws.{set_under_same}
+use Rattle.el.proofs.InducedLaws.{set_under_same}
 use Rattle.el.specs.TableLaws.{row_declared_lem, line_declared_lem}
-use Rattle.el.specs.ReachLaws.{reaches_declared, reaches_means, depends_reaches, reaches_trans, acyclic_means}
+use Rattle.el.proofs.ReachLaws.{reaches_declared, reaches_means, depends_reaches, reaches_trans, acyclic_means}
 use Rattle.el.specs.Below.{Agrees, Adds, no_line}
 
 ----------------------------------------------------------------------------------------------------

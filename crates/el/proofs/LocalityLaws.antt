@@ -26,14 +26,14 @@ use Rattle.el.specs.Test.{every_of, bit}
 use Rattle.el.specs.TestLaws.{false_not, or_left, or_right, or_cases, and_make, and_left, and_right, any_below_found, every_of_both, bit_none, bit_first, bit_next}
 use Rattle.el.specs.Description.{Description, top, name, meet, some, has_name, below}
 use Rattle.el.specs.Conjuncts.{depth}
-use Rattle.el.specs.OrderLaws.{below_left, below_right, below_trans, below_depth}
+use Rattle.el.proofs.OrderLaws.{below_left, below_right, below_trans, below_depth}
 use Rattle.el.specs.Table.{Filler, top_f, constant_f, variable_f, Entry, constant, restriction, variable, Line, Table, row_at, atoms, filler_declared, entry_declared, line_declared, declared}
 use Rattle.el.specs.Meaning.{Substitution, filler_under, row_under, entry_under, left_under, holds, makes}
 use Rattle.el.specs.Assignment.{Assignment, set_of, IsAssignment, is_variable, depends, Reaches, once, then, Acyclic, acyclic, atom_under, set_under, induced, Solves, solves}
 use Rattle.el.specs.TableLaws.{row_declared_lem, lines_declared}
-use Rattle.el.specs.ReachLaws.{acyclic_means}
+use Rattle.el.proofs.ReachLaws.{acyclic_means}
 use Rattle.el.specs.Rank.{one}
-use Rattle.el.specs.InducedLaws.{conjoin_member, conjoin_greatest, atom_under_constant, atom_under_row, induced_equation}
+use Rattle.el.proofs.InducedLaws.{conjoin_member, conjoin_greatest, atom_under_constant, atom_under_row, induced_equation}
 use Rattle.el.specs.Locality.{number, list_to, local_set, local_assignment, IsLocal, Unifiable, Solvable}
 
 ----------------------------------------------------------------------------------------------------

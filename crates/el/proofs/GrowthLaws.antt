@@ -23,7 +23,7 @@ use Rattle.el.specs.TableLaws.{lines_declared}
 use Rattle.el.specs.Meaning.{Substitution, row_under, entry_under, left_under, holds, makes}
 use Rattle.el.specs.Growth.{Grows}
 use Rattle.el.specs.Locality.{Unifiable, Solvable}
-use Rattle.el.specs.LocalityLaws.{local_iff}
+use Rattle.el.proofs.LocalityLaws.{local_iff}
 
 pub order_grown : (t u : Table) → Grows t u → role_order u ≡ role_order t
 unfolding role_order

@@ -21,7 +21,7 @@ use Rattle.el.specs.Assignment.{Assignment, IsAssignment, solves, Before}
 use Rattle.el.specs.Walk.{Node, dead, full, ends, subtree, nodes, first_of, count, Outcome, solved, nothing, budget, ended, outcome}
 use Rattle.el.specs.TestLaws.{is_true, true_is, and_make, and_left, and_right}
 use Rattle.el.specs.FirstLaws.{first_least, first_same, live_full}
-use Rattle.el.specs.NodeLaws.{set_stays, dead_hides, full_ends}
+use Rattle.el.proofs.NodeLaws.{set_stays, dead_hides, full_ends}
 use Rattle.el.specs.First.{extensions, Choices, FirstSays, assignments, SolutionSays, OutcomeSays}
 
 -- an assignment of t is a choice of as many sets as there are variables

@@ -14,7 +14,7 @@ use Rattle.el.specs.Description.{Description, same_role}
 use Rattle.el.specs.Conjuncts.{Among, Restriction, restrictions, Serves}
 use Rattle.el.specs.Roles.{RoleRow, ReachesRole, no_step, a_step, reaches_role}
 use Rattle.el.specs.Table.{Table, role_order}
-use Rattle.el.specs.OrderLaws.{same_role_refl, same_role_trans}
+use Rattle.el.proofs.OrderLaws.{same_role_refl, same_role_trans}
 
 pub reaches_role_refl : (rows : List RoleRow) (r : ℕ) → T (reaches_role rows r r)
 unfolding reaches_role

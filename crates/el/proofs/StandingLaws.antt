@@ -14,9 +14,9 @@ use Rattle.std.proofs.Math.Dec.{ltb→lt, lt→ltb}
 use Rattle.el.specs.Test.{any_below}
 use Rattle.el.specs.TestLaws.{true_is, false_not, and_make, and_left, and_right, any_below_hit, any_below_found, any_below_same}
 use Rattle.el.specs.Assignment.{Reaches}
-use Rattle.el.specs.ReachLaws.{reaches_first}
-use Rattle.el.specs.CircleLaws.{circle_some, circle_stands}
-use Rattle.el.specs.InducedLaws.{count_below_le, count_below_lt, count_below_all}
+use Rattle.el.proofs.ReachLaws.{reaches_first}
+use Rattle.el.proofs.CircleLaws.{circle_some, circle_stands}
+use Rattle.el.proofs.InducedLaws.{count_below_le, count_below_lt, count_below_all}
 use Rattle.el.specs.Rank.{count_below}
 use Rattle.el.specs.Standing.{Stand, standing}
 

@@ -22,9 +22,9 @@ use Rattle.el.specs.Meaning.{holds}
 use Rattle.el.specs.Assignment.{depends, Reaches, once, then, reaches, acyclic, Acyclic, induced}
 use Rattle.el.specs.Walk.{Node, line_variables, settled, ready, fails, dead}
 use Rattle.el.specs.TestLaws.{is_false, true_is, false_not, same_test, or_left, or_right, or_cases, and_make, and_left, and_right, any_below_hit, any_below_found, all_below_all, all_below_at, any_of_found, any_of_same, every_of_at, every_of_all}
-use Rattle.el.specs.ReachLaws.{reaches_join, reaches_means, reaches_declared, depends_declared, acyclic_means, depends_same}
-use Rattle.el.specs.NodeLaws.{set_stays, append_adds, reaches_stays, depends_unchosen, settled_chosen, settled_reached, settled_make}
-use Rattle.el.specs.FreshLaws.{child_length, dead_fresh}
+use Rattle.el.proofs.ReachLaws.{reaches_join, reaches_means, reaches_declared, depends_declared, acyclic_means, depends_same}
+use Rattle.el.proofs.NodeLaws.{set_stays, append_adds, reaches_stays, depends_unchosen, settled_chosen, settled_reached, settled_make}
+use Rattle.el.proofs.FreshLaws.{child_length, dead_fresh}
 use Rattle.el.specs.Below.{no_line, child_of, touches, newly, freshly}
 
 module _ (t : Table) (known : T (declared t)) (p : Node) (x : ℕ) where

@@ -1,0 +1,13 @@
+pub mod ReachLaws
+pub mod OrderLaws
+pub mod RoleLaws
+pub mod NodeLaws
+pub mod OutcomeLaws
+pub mod InducedLaws
+pub mod CircleLaws
+pub mod StandingLaws
+pub mod LocalityLaws
+pub mod GrowthLaws
+pub mod Instances
+pub mod FreshLaws
+pub mod ChildLaws

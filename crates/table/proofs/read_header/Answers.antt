@@ -1,5 +1,7 @@
 -- `table::read_header` meets its contract: a law for each refusal, in order, and one for the header that is read.
 use mathlib.Core.Path.{sym, ◌∙◌}
+use Rattle.std.specs.Prelude.{◌≡◌, true}
+use Rattle.table.specs.Reading.{marked}
 use native.Mathlib.Omega.{arith}
 use borrow.Author.Tests.{not-true, not-false}
 use Rattle.table.specs.ReadLaws.{header_short, header_mark, header_version}
@@ -13,7 +15,9 @@ pub returns-then-not-mark : goal.returns-then-not-mark
 returns-then-not-mark c = stops (header_mark _ _ (omega arith) (sym c.has_mark-mark.ensures ∙ c.if-not-mark.true))
 
 pub returns-then-not-version : goal.returns-then-not-version
-returns-then-not-version c = stops (header_version _ _ (omega arith) (sym c.has_mark-mark.ensures ∙ c.if-not-mark.false) (sym c.is_version_known-version.ensures ∙ c.if-not-version.true))
+returns-then-not-version c =
+    let m : marked c.args.table.now ≡ true = cc in
+    stops (header_version _ _ (omega arith) m (sym c.is_version_known-version.ensures ∙ c.if-not-version.true))
 
 pub returns-then-table-end : goal.returns-then-table-end
 returns-then-table-end c = header_cut _ _ c.header_of.ensures (omega arith) (sym c.has_mark-mark.ensures ∙ c.if-not-mark.false) (sym c.is_version_known-version.ensures ∙ c.if-not-version.false) _ (sym c.read_counts.ensures ∙ c.in-Next.is) c.if-table-end.true

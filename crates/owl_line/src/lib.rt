@@ -9,7 +9,7 @@ ghost use Rattle.text.specs.Append.{Appended};
 ghost use Rattle.owl_line.specs.Sides.{SideIn, CountIs, CodeIs, PutEntries, PutLines, Grouped};
 
 // A side of lines: a fresh variable and its number, or a class expression and the byte behind which it begins.
-#[derive(Drop)]
+#[derive(Clone, Copy)]
 pub struct Side {
     pub fresh: bool,
     pub at: usize,

@@ -4,7 +4,7 @@
 --   longer_input == "a longer input gives the same answer": and so they are reported
 --   lines_same   == assignments that give the same sets are listed alike
 --   found_listed == THE ASSIGNMENT THAT WAS FOUND IS LISTED
-use Rattle.std.specs.Prelude.{◌≡◌, refl, List, ◌++◌, ℕ, zero, suc, ◌+◌, ◌*◌, ◌^◌, ◌≤◌, ◌<◌, take}
+use Rattle.std.specs.Prelude.{◌≡◌, refl, List, ◌++◌, ℕ, zero, suc, ◌*◌, ◌^◌, ◌≤◌, ◌<◌, take}
 use Rattle.std.proofs.Common.{sym, ap, ap₂, ◌∙◌, le-ltb}
 use native.Mathlib.Omega.{arith}
 use Rattle.std.proofs.Math.Dec.{ltb, ltb→lt}

@@ -1,13 +1,13 @@
 /*
  * Makrothel for C: reads catalogue tables, hands out their lines and solves them.
  *
- * Link with libmakrothel.a, which `rt staticlib makrothel` writes to target/staticlib (x86-64 Linux). The archive
- * needs memcpy and memset of the C library and nothing else: no heap, no files, no state between calls. Calls from
- * several threads at once are safe if they lend different memory. The greatest stack that a call of makrothel_solve
- * was seen to use is 9,992 bytes (docs/BENCHMARKS.md).
+ * Link with libmakrothel_c.a, which `rt lib` writes to out/ in the folder crates/makrothel_c (x86-64 Linux), and
+ * tests/library to target/staticlib/libmakrothel.a. The archive needs memcpy and memset of the C library and nothing
+ * else: no heap, no files, no state between calls. Calls from several threads at once are safe if they lend different
+ * memory. The greatest stack that a call of makrothel_solve was seen to use is 9,992 bytes (docs/BENCHMARKS.md).
  *
  * Every byte string, every line number, every budget and every output length is answered: no call fails in another
- * way than by its number. What is answered is proved (crates/makrothel/src/c.rt, specs/C.antt). What is not proved
+ * way than by its number. What is answered is proved (crates/makrothel_c/src/lib.rt, crates/makrothel/specs/C.antt). What is not proved
  * is that a C caller does as follows, and that these declarations are those of the archive:
  *
  *   - No pointer is null, also where its length is 0. Any other address serves there.

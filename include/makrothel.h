@@ -8,8 +8,8 @@
  * KIT names, and 9,992 with an older one (docs/BENCHMARKS.md).
  *
  * Every byte string, every line number, every budget and every output length is answered: no call fails in another
- * way than by its number. What is answered is proved (crates/makrothel_c/src/lib.rt, crates/makrothel/specs/C.antt). What is not proved
- * is that a C caller does as follows, and that these declarations are those of the archive:
+ * way than by its number. What is answered is proved (crates/makrothel_c/src/lib.rt, crates/makrothel/specs/C.antt).
+ * What is not proved is that a C caller does as follows, and that these declarations are those of the archive:
  *
  *   - No pointer is null, also where its length is 0. Any other address serves there.
  *   - A length is the number of bytes that may be read (table) or read and written (output) from its pointer on. It is

@@ -23,7 +23,7 @@ use Rattle.text.specs.Append.{Appended}
 use Rattle.text.specs.AppendLaws.{appended_whole}
 use Rattle.text.specs.Batch.{read_text, line_text, solve_text}
 use Rattle.text.specs.Room.{Numbers}
-use Rattle.text.specs.FitsLaws.{read_fits, line_fits, solve_fits}
+use Rattle.text.proofs.FitsLaws.{read_fits, line_fits, solve_fits}
 use Rattle.makrothel.specs.declared.ReadAnswer.{ReadAnswer}
 use Rattle.makrothel.specs.Answer.{read_answer, line_part}
 use Rattle.makrothel.specs.Solve.{answer}

@@ -23,7 +23,7 @@ use Rattle.text.specs.AppendLaws.{appended_whole}
 use Rattle.text.specs.Batch.{read_text}
 use Rattle.text.specs.Listing.{under_number}
 use Rattle.text.specs.Room.{Numbers}
-use Rattle.text.specs.FitsLaws.{read_fits}
+use Rattle.text.proofs.FitsLaws.{read_fits}
 use Rattle.makrothel.specs.Solve.{answer}
 use Rattle.owl.specs.Mention.{names_in}
 use Rattle.owl_answer.specs.Owl.{owl, OwlAt}

@@ -13,7 +13,7 @@ use Rattle.text.specs.Append.{Appended}
 use Rattle.text.specs.AppendLaws.{appended_whole}
 use Rattle.text.specs.Listing.{listing_text}
 use Rattle.text.specs.Room.{Numbers, listing_room}
-use Rattle.text.specs.FitsLaws.{listing_fits}
+use Rattle.text.proofs.FitsLaws.{listing_fits}
 use Rattle.makrothel.specs.Solve.{answer}
 use Rattle.listing.specs.Report.{listing_budget, listing_output, answer_text, report_text}
 

@@ -6,6 +6,5 @@ pub mod TextLaws
 pub mod Listing
 pub mod Batch
 pub mod Room
-pub mod FitsLaws
 pub mod Examples
 pub mod Unique

@@ -18,7 +18,7 @@ use Rattle.std.proofs.lemmas.Bool.{lt-leb}
 use Rattle.el.specs.Test.{every_of}
 use Rattle.el.specs.Table.{Table, atoms, declared}
 use Rattle.el.specs.Assignment.{Assignment, IsAssignment, solves, Before}
-use Rattle.el.specs.Walk.{Node, dead, full, ends, subtree, nodes, first_of, count, Outcome, solved, nothing, budget, ended, outcome}
+use Rattle.el.specs.Walk.{Node, dead, full, ends, subtree, nodes, first_of, count, budget, ended, outcome}
 use Rattle.el.specs.TestLaws.{is_true, true_is, and_make, and_left, and_right}
 use Rattle.el.specs.FirstLaws.{first_least, first_same, live_full}
 use Rattle.el.proofs.NodeLaws.{set_stays, dead_hides, full_ends}

@@ -6,8 +6,8 @@
 --   tree_length    == the nodes of a tree
 --   count_some     == the root is always examined: N is not 0
 --   count_most     == "N is at most the sum of 2^((c+e)k) for k from 0 to v."
-use Rattle.std.specs.Prelude.{◌≡◌, refl, Bool, true, false}
-use Rattle.std.proofs.Common.{sym, ap, subst, ◌∙◌, mul-suc, mul-zero, add-mul, pow-add, length-append}
+use Rattle.std.specs.Prelude.{◌≡◌, Bool, true, false}
+use Rattle.std.proofs.Common.{ap, ◌∙◌, mul-suc, mul-zero, add-mul, pow-add, length-append}
 use mathlib.Core.List.{List, [], ◌∷◌, ◌++◌}
 use Prim.Native.Nat.{ℕ, zero, suc, ◌+◌, ◌*◌, ◌^◌, ◌≤◌, ◌<◌}
 use native.Mathlib.Omega.{arith}

@@ -15,7 +15,7 @@ use Rattle.bounds.specs.Bounds.{max_constants, max_atoms, max_variables, set_bit
 use Rattle.el.specs.Table.{Filler, top_f, constant_f, variable_f, Entry, constant, restriction, variable, Table}
 use Rattle.el.specs.Assignment.{Assignment, set_of}
 use Rattle.table.specs.declared.Kind.{Kind}
-use Rattle.table.specs.declared.Kind.TheVariants.{Top, Constant, Restriction, Variable, Other}
+use Rattle.table.specs.declared.Kind.TheVariants.{Constant, Restriction, Variable}
 use Rattle.table.specs.Code.{kind_of, filler_of, filler_of_kind, entry_of, entry_of_kind, WritesFiller, fills_top, fills_constant, fills_variable, WritesEntry, enters_constant, enters_restriction, enters_variable}
 use Rattle.table.specs.CodeLaws.{within_some, within_is, filler_writes, entry_writes}
 use Rattle.bounds.specs.WidthLaws.{power_fits}

@@ -4,7 +4,7 @@
 --   left_start, left_step, left_whole   == the loop that joins the left entries' sets
 --   line_asked                          == the line holds
 use mathlib.Core.Path.{◌≡◌, refl, sym, ap, ap₂, subst, ◌∙◌}
-use mathlib.Core.Bool.{Bool, ◌||◌, not}
+use mathlib.Core.Bool.{◌||◌, not}
 use mathlib.Core.List.{List}
 use Prim.Native.Nat.{ℕ, suc, ◌+◌, ◌≤◌, ◌<◌}
 use native.Mathlib.Omega.{arith}

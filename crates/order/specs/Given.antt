@@ -9,7 +9,7 @@
 --   SetsGiven a                == a has a set for each variable that a table may have
 --   Asking over inner a c e    == e prepared rows of some table with c constants, within the bounds, and sets
 --   LineGiven s over inner a c e v at == s is a readable table with the counts c, e and v and these rows, a is acyclic, a line begins at the byte `at`
-use Rattle.std.specs.Prelude.{◌≡◌, Bool, ◌&&◌, List, ℕ, ◌+◌, ◌≤◌, ◌<◌, T, ltb, length, get_or}
+use Rattle.std.specs.Prelude.{◌≡◌, ◌&&◌, List, ℕ, ◌+◌, ◌≤◌, ◌<◌, T, ltb, length, get_or}
 use Rattle.std.proofs.Math.Option.{some}
 use Rattle.bounds.specs.Bounds.{max_constants, max_restrictions, max_atoms, max_variables}
 use Rattle.el.specs.Test.{bit}

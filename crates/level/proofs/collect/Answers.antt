@@ -1,9 +1,7 @@
 -- `level::collect` meets its contract. The invariant: of the first n lines those that pass are listed. The measure is what is left of m.
 use mathlib.Core.Path.{refl, sym, ◌∙◌}
-use mathlib.Core.Logic.{⊎_elim}
-use Prim.Native.Nat.{◌-◌, ◌≤◌}
 use native.Mathlib.Omega.{arith}
-use Rattle.level.specs.Level.{is_fresh, Listed}
+use Rattle.level.specs.Level.{is_fresh}
 use Rattle.level.specs.ListedLaws.{listed_start, listed_more, listed_skip, listed_whole}
 use Rattle.level.proofs.collect.Goals as goal
 use Rattle.level.proofs.collect.Goals.{then-passes, else-passes}
@@ -16,9 +14,9 @@ unfolding is_fresh
 loop-n-preserved c = (
   omega arith,
   elim c.if-passes.branch [
-      then-passes w ↦ listed_more c.loop-n.invariant.1 (sym c.passes.ensures ∙ w.if-passes.true) (omega arith) w.fresh-is w.few-is
+    | then-passes w ↦ listed_more c.loop-n.invariant.1 (sym c.passes.ensures ∙ w.if-passes.true) (omega arith) w.fresh-is w.few-is
     | else-passes w ↦ listed_skip c.loop-n.invariant.1 (sym c.passes.ensures ∙ w.if-passes.false) w.fresh-is w.few-is
-    ],
+  ],
 )
 
 pub returns : goal.returns

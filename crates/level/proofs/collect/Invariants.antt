@@ -1,10 +1,6 @@
 -- `level::collect` meets its contract. The invariant: of the first n lines those that pass are listed. The measure is what is left of m.
-use mathlib.Core.Path.{refl, sym, ◌∙◌}
-use mathlib.Core.Logic.{⊎_elim}
 use Prim.Native.Nat.{◌-◌, ◌≤◌}
-use native.Mathlib.Omega.{arith}
 use Rattle.level.specs.Level.{is_fresh, Listed}
-use Rattle.level.specs.ListedLaws.{listed_start, listed_more, listed_skip, listed_whole}
 use Rattle.level.proofs.collect.Given as goal
 
 abbrev pub invariant-loop-n : goal.invariant-loop-n

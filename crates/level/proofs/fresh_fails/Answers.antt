@@ -1,11 +1,5 @@
 -- `level::fresh_fails` meets its contract. The invariant: none of the first i lines listed fails. The measure is what is left of them.
-use mathlib.Core.Path.{◌≡◌}
-use mathlib.Core.Bool.{false}
-use Prim.Native.Nat.{◌-◌, ◌≤◌}
 use native.Mathlib.Omega.{arith}
-use Rattle.table.specs.Reading.{table_of}
-use Rattle.table.specs.LengthLaws.{place_fits}
-use Rattle.level.specs.Level.{fresh_fails}
 use Rattle.level.specs.ListedLaws.{lines_start, lines_fail, lines_next, lines_whole}
 use Rattle.std.proofs.Common.{rules}
 use Rattle.std.proofs.Common.{ap, not}

@@ -2,11 +2,8 @@
 use mathlib.Core.Path.{◌≡◌}
 use mathlib.Core.Bool.{false}
 use Prim.Native.Nat.{◌-◌, ◌≤◌}
-use native.Mathlib.Omega.{arith}
 use Rattle.table.specs.Reading.{table_of}
-use Rattle.table.specs.LengthLaws.{place_fits}
 use Rattle.level.specs.Level.{fresh_fails}
-use Rattle.level.specs.ListedLaws.{lines_start, lines_fail, lines_next, lines_whole}
 use Rattle.level.proofs.fresh_fails.Given as goal
 
 abbrev pub invariant-loop-i : goal.invariant-loop-i

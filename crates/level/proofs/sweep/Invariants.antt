@@ -1,15 +1,11 @@
 -- `level::sweep` meets its contract. The invariant: so many siblings are passed, all dead, and the list holds the next. The measure is
 -- what is left of those allowed.
-use mathlib.Core.Path.{◌≡◌, refl}
+use mathlib.Core.Path.{◌≡◌}
 use Prim.Native.Nat.{◌-◌, ◌^◌, ◌≤◌, ◌<◌}
-use native.Mathlib.Omega.{arith}
-use lib.ListN.{length, length-set}
-use borrow.Author.Tests.{not-true, not-false}
+use lib.ListN.{length}
 use Rattle.bounds.specs.Bounds.{max_atoms, max_variables}
 use Rattle.table.specs.Reading.{table_of}
 use Rattle.level.specs.Sweep.{ChildGiven, At}
-use Rattle.level.specs.ChildLaws.{child_place}
-use Rattle.level.specs.SweepLaws.{at_start, at_child, at_next, swept_live, swept_over, swept_spent}
 use Rattle.level.proofs.sweep.Given as goal
 
 abbrev pub invariant-loop-passed : goal.invariant-loop-passed

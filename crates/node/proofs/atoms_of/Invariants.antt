@@ -1,13 +1,7 @@
 -- `node::atoms_of` meets its contract. The invariant: the atoms of the first k restrictions with a marked filler; the measure is what is left of them.
-use mathlib.Core.Path.{ap, ◌∙◌}
-use mathlib.Core.Logic.{⊎_elim}
 use Prim.Native.Nat.{◌-◌, ◌≤◌}
-use native.Mathlib.Omega.{arith}
-use Rattle.bounds.specs.Bounds.{set_bits}
-use Rattle.el.specs.Test.{bit}
 use Rattle.node.specs.Mask.{Masks}
 use Rattle.node.specs.Marks.{atoms_to}
-use Rattle.node.specs.MarkLaws.{atoms_start, atoms_more, atoms_skip, atoms_whole}
 use Rattle.node.proofs.atoms_of.Given as goal
 
 abbrev pub invariant-loop-k : goal.invariant-loop-k

@@ -1,10 +1,5 @@
 -- `node::entry_mask` meets its contract: a restriction has the variable inside it, any other code the one that it names.
-use mathlib.Core.Path.{sym, subst, ◌∙◌}
-use mathlib.Core.List.{[], ◌∷◌}
-use types.Run.{OneOf, miss}
-use denote.Enum.Declared.{tag_of}
-use Rattle.table.specs.declared.Kind.{Kind}
-use Rattle.table.specs.contracts.Kind.{the_type}
+use mathlib.Core.Path.{sym, ◌∙◌}
 use native.Mathlib.Omega.{arith}
 use Rattle.node.specs.CodeLaws.{entry_row, entry_says}
 use Rattle.node.proofs.entry_mask.Goals as goal

@@ -1,13 +1,9 @@
 -- `node::fill_masks` meets its contract. The invariant: the masks of the first k restrictions are made; the measure is what is left of e.
-use mathlib.Core.Path.{◌≡◌, ◌∙◌}
-use Prim.Native.Nat.{◌-◌, ◌≤◌}
+use mathlib.Core.Path.{◌∙◌}
 use native.Mathlib.Omega.{arith}
-use lib.ListN.{length, length-set}
-use Rattle.bounds.specs.Bounds.{max_restrictions}
-use Rattle.table.specs.Reading.{table_of}
+use lib.ListN.{length-set}
 use Rattle.table.specs.Layout.{IsRowFiller}
 use Rattle.table.specs.LayoutLaws.{layout}
-use Rattle.node.specs.Mask.{FillMasks}
 use Rattle.node.specs.MaskLaws.{each_none, each_set, each_whole}
 use Rattle.node.specs.CodeLaws.{filler_names, filler_says}
 use Rattle.std.proofs.Common.{rules}

@@ -1,15 +1,10 @@
 -- `node::fill_masks` meets its contract. The invariant: the masks of the first k restrictions are made; the measure is what is left of e.
-use mathlib.Core.Path.{◌≡◌, ◌∙◌}
+use mathlib.Core.Path.{◌≡◌}
 use Prim.Native.Nat.{◌-◌, ◌≤◌}
-use native.Mathlib.Omega.{arith}
-use lib.ListN.{length, length-set}
+use lib.ListN.{length}
 use Rattle.bounds.specs.Bounds.{max_restrictions}
 use Rattle.table.specs.Reading.{table_of}
-use Rattle.table.specs.Layout.{IsRowFiller}
-use Rattle.table.specs.LayoutLaws.{layout}
 use Rattle.node.specs.Mask.{FillMasks}
-use Rattle.node.specs.MaskLaws.{each_none, each_set, each_whole}
-use Rattle.node.specs.CodeLaws.{filler_names, filler_says}
 use Rattle.node.proofs.fill_masks.Given as goal
 
 abbrev pub invariant-loop-k : goal.invariant-loop-k

@@ -1,8 +1,6 @@
 -- `node::having` meets its contract. The invariant: the mask has the variables below x whose sets have one of the atoms; the measure is what is left of n.
 use mathlib.Core.Path.{sym, ap, subst}
 use mathlib.Core.Bool.{not}
-use mathlib.Core.Logic.{⊎_elim}
-use Prim.Native.Nat.{◌-◌, ◌≤◌}
 use native.Mathlib.Omega.{arith}
 use borrow.Author.Tests.{eq-eqb, ne_eqb}
 use Rattle.node.specs.Mask.{Picks}
@@ -19,9 +17,9 @@ unfolding has_one
 loop-x-preserved c = (
   omega arith,
   elim c.if-set-x-ne0.branch [
-      then-set-x-ne0 w ↦ subst (Picks _ _) (sym w.mask-is) (pick_more c.loop-x.invariant.1 (omega arith) (ap not (ne_eqb _ _ w.if-set-x-ne0.true)))
+    | then-set-x-ne0 w ↦ subst (Picks _ _) (sym w.mask-is) (pick_more c.loop-x.invariant.1 (omega arith) (ap not (ne_eqb _ _ w.if-set-x-ne0.true)))
     | else-set-x-ne0 w ↦ subst (Picks _ _) (sym w.mask-is) (pick_skip c.loop-x.invariant.1 (ap not (eq-eqb _ _ w.if-set-x-ne0.false)))
-    ],
+  ],
 )
 
 pub returns : goal.returns

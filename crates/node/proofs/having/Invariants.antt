@@ -1,12 +1,6 @@
 -- `node::having` meets its contract. The invariant: the mask has the variables below x whose sets have one of the atoms; the measure is what is left of n.
-use mathlib.Core.Path.{sym, ap, subst}
-use mathlib.Core.Bool.{not}
-use mathlib.Core.Logic.{⊎_elim}
 use Prim.Native.Nat.{◌-◌, ◌≤◌}
-use native.Mathlib.Omega.{arith}
-use borrow.Author.Tests.{eq-eqb, ne_eqb}
 use Rattle.node.specs.Mask.{Picks}
-use Rattle.node.specs.MaskLaws.{pick_start, pick_more, pick_skip, pick_whole}
 use Rattle.node.specs.Marks.{has_one}
 use Rattle.node.proofs.having.Given as goal
 

@@ -1,12 +1,8 @@
 -- `node::is_acyclic` meets its contract. The invariant: the mask has what stands after so many rounds; the measure is what is left of v.
 use mathlib.Core.Path.{◌≡◌}
-use Prim.Native.Nat.{◌-◌, ◌≤◌}
 use native.Mathlib.Omega.{arith}
 use lib.ListN.{length}
 use Rattle.bounds.specs.Bounds.{max_variables}
-use Rattle.el.specs.Standing.{standing}
-use Rattle.node.specs.Mask.{Masks}
-use Rattle.node.specs.Marks.{depends_in}
 use Rattle.node.specs.StandLaws.{standing_first, standing_next, standing_last, standing_whole, cycle_says}
 use Rattle.std.proofs.Common.{rules}
 use Rattle.node.proofs.is_acyclic.Goals as goal

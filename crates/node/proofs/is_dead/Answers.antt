@@ -1,7 +1,6 @@
 -- `node::is_dead` meets its contract: the cycle test, and else the first line that fails.
 use mathlib.Core.Path.{sym, ◌∙◌}
 use native.Mathlib.Omega.{arith}
-use borrow.Author.Tests.{not-true, not-false}
 use Rattle.el.specs.TestLaws.{true_is}
 use Rattle.node.specs.DeadLaws.{node_few, node_fills, node_depends, dead_cycle, dead_first}
 use Rattle.node.proofs.is_dead.Goals as goal

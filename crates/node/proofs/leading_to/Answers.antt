@@ -1,9 +1,4 @@
 -- `node::leading_to` meets its contract. The invariant: what is marked leads to the mask, and each round marked more; the measure is what is left of n.
-use Prim.Native.Nat.{◌-◌}
-use lib.Dec.{eqb, eqb→eq}
-use borrow.Author.Tests.{not-false}
-use Rattle.el.specs.TestLaws.{true_is}
-use Rattle.node.specs.Marks.{Marking}
 use Rattle.node.specs.MarkLaws.{marking_start, marking_more, leads_stable, leads_none, leads_full}
 use Rattle.node.proofs.leading_to.Goals as goal
 

@@ -1,9 +1,6 @@
 -- `node::line_mask` meets its contract. The invariant: the mask has the variables of the first i left entries; the measure is what is left of p.
-use Prim.Native.Nat.{◌-◌, ◌≤◌}
 use native.Mathlib.Omega.{arith}
-use Rattle.table.specs.Reading.{table_of}
-use Rattle.table.specs.Layout.{IsEntryCode, AtLine}
-use Rattle.node.specs.Mask.{Masks, left_to}
+use Rattle.table.specs.Layout.{IsEntryCode}
 use Rattle.node.specs.LineLaws.{line_fits, left_start, left_more, line_whole}
 use Rattle.node.proofs.line_mask.Goals as goal
 

@@ -1,14 +1,8 @@
 -- `node::lines_of` meets its contract. The invariant: the masks and starts of the first n lines are made, and `at` is where line n begins; the measure is what is left of m.
-use mathlib.Core.Path.{◌≡◌}
-use Prim.Native.Nat.{◌-◌, ◌≤◌}
 use native.Mathlib.Omega.{arith}
-use lib.ListN.{length, length-set}
-use Rattle.bounds.specs.Bounds.{max_lines}
-use Rattle.table.specs.Layout.{line_start}
-use Rattle.table.specs.Reading.{table_of}
+use lib.ListN.{length-set}
 use Rattle.table.specs.LayoutLaws.{layout}
 use Rattle.table.specs.LengthLaws.{place_fits}
-use Rattle.node.specs.Mask.{LineMasks, LineStarts}
 use Rattle.node.specs.MaskLaws.{each_none, each_set, each_whole}
 use Rattle.node.specs.LineLaws.{line_next}
 use Rattle.std.proofs.Common.{rules}
@@ -38,14 +32,14 @@ overflow_add-at-in-loop-n c = let p = c.requires in omega (arith, line_next _ p.
 
 pub loop-n-preserved : goal.loop-n-preserved
 loop-n-preserved c = let p = c.requires in let q = p.room.1 in let i = c.loop-n.invariant in (
-      omega arith,
-      i.1,
-      simp length-set i.2,
-      simp length-set i.3,
-      (line_next _ p.filled.0 _ _ _ (omega arith) i.4 c.left_count.ensures).0,
-      each_set i.5 (omega arith) (c.line_mask.ensures _ (omega arith) i.4),
-      each_set i.6 (omega arith) i.4,
-    )
+  omega arith,
+  i.1,
+  simp length-set i.2,
+  simp length-set i.3,
+  (line_next _ p.filled.0 _ _ _ (omega arith) i.4 c.left_count.ensures).0,
+  each_set i.5 (omega arith) (c.line_mask.ensures _ (omega arith) i.4),
+  each_set i.6 (omega arith) i.4,
+)
 
 pub returns : goal.returns
 returns c = let i = c.loop-n.invariant in (each_whole i.5 i.0 c.loop-n-test.false, each_whole i.6 i.0 c.loop-n-test.false)

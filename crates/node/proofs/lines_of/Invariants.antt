@@ -1,16 +1,11 @@
 -- `node::lines_of` meets its contract. The invariant: the masks and starts of the first n lines are made, and `at` is where line n begins; the measure is what is left of m.
 use mathlib.Core.Path.{◌≡◌}
 use Prim.Native.Nat.{◌-◌, ◌≤◌}
-use native.Mathlib.Omega.{arith}
-use lib.ListN.{length, length-set}
+use lib.ListN.{length}
 use Rattle.bounds.specs.Bounds.{max_lines}
 use Rattle.table.specs.Layout.{line_start}
 use Rattle.table.specs.Reading.{table_of}
-use Rattle.table.specs.LayoutLaws.{layout}
-use Rattle.table.specs.LengthLaws.{place_fits}
 use Rattle.node.specs.Mask.{LineMasks, LineStarts}
-use Rattle.node.specs.MaskLaws.{each_none, each_set, each_whole}
-use Rattle.node.specs.LineLaws.{line_next}
 use Rattle.node.proofs.lines_of.Given as goal
 
 abbrev pub invariant-loop-n : goal.invariant-loop-n

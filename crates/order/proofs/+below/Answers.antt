@@ -1,20 +1,12 @@
 -- The three questions meet their contracts. The measure is three times the dependences left, one more for the conjunction's question and two more for that
 -- of two conjunctions. The loops go over the bits of a mask, lowest first: what is asked of the whole mask is asked of what is left of it. Their measure is how
 -- many bits are left.
-use mathlib.Core.Path.{◌≡◌, refl, sym, ap, ◌∙◌}
-use mathlib.Core.Bool.{true, false, not}
-use mathlib.Core.Logic.{⊎_elim}
-use Prim.Native.Nat.{ℕ, ◌+◌, ◌*◌, ◌-◌, ◌≤◌, ◌<◌}
+use mathlib.Core.Path.{sym, ap, ◌∙◌}
+use mathlib.Core.Bool.{not}
+use Prim.Native.Nat.{◌-◌, ◌<◌}
 use native.Mathlib.Omega.{arith}
-use borrow.Author.Tests.{not-true, not-false}
-use lib.ListN.{get_or}
-use Rattle.bounds.specs.Bounds.{set_bits}
-use Rattle.el.specs.Test.{bit}
-use Rattle.el.specs.Rank.{count_below}
-use Rattle.order.specs.Asked.{any_in, set_asked, filler_asked}
 use Rattle.order.proofs.LowestLaws.{less_ones, in_past, in_hit, in_next, in_none}
 use Rattle.order.proofs.AskedLaws.{constant_at, rows_at, constants_missing, each_holds, each_fails, each_none, filler_flat, filler_sets}
-use Rattle.std.proofs.Common.{rules}
 use Rattle.order.proofs.+below.Goals as goal
 
 pub each_below-returns-then-c-e : goal.each_below-returns-then-c-e

@@ -1,12 +1,9 @@
 -- `order::left_set` meets its contract. The loop: what is joined so far is the union of the sets of the entries passed (`unionTo`). The measure is what is left of the entries.
-use mathlib.Core.Path.{◌≡◌, sym, ◌∙◌}
+use mathlib.Core.Path.{◌≡◌}
 use Prim.Native.Nat.{◌-◌, ◌≤◌}
-use native.Mathlib.Omega.{arith}
 use Rattle.table.specs.Reading.{table_of}
 use Rattle.table.specs.Layout.{AtLine}
 use Rattle.order.specs.Rule.{union_to}
-use Rattle.table.specs.LayoutLaws.{layout}
-use Rattle.order.proofs.Laws.{entry_fits, left_start, left_step, left_whole}
 use Rattle.order.proofs.left_set.Given as goal
 
 abbrev pub invariant-loop-i : goal.invariant-loop-i

@@ -1,7 +1,6 @@
 -- `order::row_over` meets its contract. The invariant: the mask has those of the first k rows whose roles lie under row j's; the measure is what is left of the rows.
 use mathlib.Core.Path.{refl, subst, sym, ◌∙◌}
-use mathlib.Core.Logic.{⊎_elim}
-use Prim.Native.Nat.{ℕ, ◌-◌, ◌≤◌, ◌<◌}
+use Prim.Native.Nat.{ℕ, ◌<◌}
 use native.Mathlib.Omega.{arith}
 use Rattle.bounds.specs.Bounds.{max_roles}
 use Rattle.roles.specs.UnderLaws.{under_many}
@@ -34,12 +33,12 @@ overflow_shl-mask c = omega (arith, (layout _ c.requires.0).few_restrictions)
 
 pub loop-k-preserved : goal.loop-k-preserved
 loop-k-preserved c = (
-      omega arith,
-      elim c.if-has_role.branch [
-          then-has_role w ↦ subst (Over _ _ _) (sym w.mask-is) (over_hit _ _ _ _ (omega (arith, (layout _ c.requires.0).few_restrictions)) (lies_by _ c.requires.0 _ c.requires.1 _ _ _ _ _ _ (omega arith) (omega arith) (c.wide.ensures ∙ c.role_of.ensures) (c.wide-in-loop-k.ensures ∙ c.role_of-in-loop-k.ensures) refl (sym c.has_role.ensures ∙ w.if-has_role.true)) c.loop-k.invariant.1)
-        | else-has_role w ↦ subst (Over _ _ _) (sym w.mask-is) (over_miss _ _ _ _ (lies_by _ c.requires.0 _ c.requires.1 _ _ _ _ _ _ (omega arith) (omega arith) (c.wide.ensures ∙ c.role_of.ensures) (c.wide-in-loop-k.ensures ∙ c.role_of-in-loop-k.ensures) refl (sym c.has_role.ensures ∙ w.if-has_role.false)) c.loop-k.invariant.1)
-      ],
-    )
+  omega arith,
+  elim c.if-has_role.branch [
+    | then-has_role w ↦ subst (Over _ _ _) (sym w.mask-is) (over_hit _ _ _ _ (omega (arith, (layout _ c.requires.0).few_restrictions)) (lies_by _ c.requires.0 _ c.requires.1 _ _ _ _ _ _ (omega arith) (omega arith) (c.wide.ensures ∙ c.role_of.ensures) (c.wide-in-loop-k.ensures ∙ c.role_of-in-loop-k.ensures) refl (sym c.has_role.ensures ∙ w.if-has_role.true)) c.loop-k.invariant.1)
+    | else-has_role w ↦ subst (Over _ _ _) (sym w.mask-is) (over_miss _ _ _ _ (lies_by _ c.requires.0 _ c.requires.1 _ _ _ _ _ _ (omega arith) (omega arith) (c.wide.ensures ∙ c.role_of.ensures) (c.wide-in-loop-k.ensures ∙ c.role_of-in-loop-k.ensures) refl (sym c.has_role.ensures ∙ w.if-has_role.false)) c.loop-k.invariant.1)
+  ],
+)
 
 pub returns : goal.returns
 returns c = over_whole _ _ _ _ _ c.loop-k-test.false c.loop-k.invariant.0 c.loop-k.invariant.1

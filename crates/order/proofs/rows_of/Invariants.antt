@@ -1,11 +1,6 @@
 -- `order::rows_of` meets its contract. The invariant: the first j rows are prepared; the measure is what is left of the rows.
-use mathlib.Core.Path.{ap, ◌∙◌}
 use Prim.Native.Nat.{◌-◌, ◌≤◌}
-use native.Mathlib.Omega.{arith}
 use Rattle.order.specs.Given.{RowsTo}
-use Rattle.table.specs.declared.Header.{Header}
-use Rattle.table.specs.LayoutLaws.{layout}
-use Rattle.order.proofs.RowsLaws.{rows_start, rows_step, rows_whole}
 use Rattle.order.proofs.rows_of.Given as goal
 
 abbrev pub invariant-loop-j : goal.invariant-loop-j

@@ -1,6 +1,6 @@
 -- `output::number_at` meets its contract. The invariant: the last k bytes are read. The measure is how many are left.
 use mathlib.Core.Path.{◌≡◌, refl, ap₂, ◌∙◌}
-use Prim.Native.Nat.{ℕ, ◌+◌, ◌-◌, ◌^◌, ◌≤◌, ◌<◌}
+use Prim.Native.Nat.{ℕ, ◌+◌, ◌-◌}
 use native.Mathlib.Omega.{arith}
 use Rattle.output.specs.Written.{number_at}
 use Rattle.output.proofs.Laws.{number_turn, number_fits}

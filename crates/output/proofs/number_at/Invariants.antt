@@ -1,9 +1,7 @@
 -- `output::number_at` meets its contract. The invariant: the last k bytes are read. The measure is how many are left.
-use mathlib.Core.Path.{◌≡◌, refl, ap₂, ◌∙◌}
-use Prim.Native.Nat.{ℕ, ◌+◌, ◌-◌, ◌^◌, ◌≤◌, ◌<◌}
-use native.Mathlib.Omega.{arith}
+use mathlib.Core.Path.{◌≡◌}
+use Prim.Native.Nat.{◌+◌, ◌-◌, ◌^◌, ◌≤◌, ◌<◌}
 use Rattle.output.specs.Written.{number_at}
-use Rattle.output.proofs.Laws.{number_turn, number_fits}
 use Rattle.output.proofs.number_at.Given as goal
 
 abbrev pub invariant-loop-k : goal.invariant-loop-k

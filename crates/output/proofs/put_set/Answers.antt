@@ -1,9 +1,9 @@
 -- `output::put_set` meets its contract. The invariant: with the rest of the number behind the bytes that are written, they are the number. The measure is how
 -- many are left.
 use mathlib.Core.Path.{◌≡◌, refl, sym, ap, ◌∙◌}
-use Prim.Native.Nat.{ℕ, ◌-◌, ◌≤◌}
+use Prim.Native.Nat.{ℕ, ◌-◌}
 use native.Mathlib.Omega.{arith}
-use lib.ListN.{length, length-set, take-append-drop}
+use lib.ListN.{length-set, take-append-drop}
 use Rattle.bounds.specs.Bounds.{set_bytes}
 use Rattle.output.specs.Written.{little_endian, put_at}
 use Rattle.output.proofs.Laws.{put_turn}

@@ -1,10 +1,8 @@
 -- `roles::alone` meets its contract. The invariant: of the first s roles each lies under itself alone; the measure is what is left of the roles.
 use Prim.Native.Nat.{◌-◌}
-use native.Mathlib.Omega.{arith}
 use Rattle.bounds.specs.Bounds.{max_roles}
 use Rattle.el.specs.Description.{same_role}
 use Rattle.roles.specs.Under.{SaysTo}
-use Rattle.roles.specs.UnderLaws.{alone_start, alone_next, alone_whole}
 use Rattle.roles.proofs.alone.Given as goal
 
 abbrev pub invariant-loop-s : goal.invariant-loop-s

@@ -1,10 +1,8 @@
 -- `roles::roles_under` meets its contract. The invariant: the masks say the order over the role rows from row k on; the measure is k.
 use mathlib.Core.Path.{◌∙◌}
-use Prim.Native.Nat.{◌-◌, ◌≤◌}
+use Prim.Native.Nat.{◌-◌}
 use native.Mathlib.Omega.{arith}
-use Rattle.table.specs.Reading.{table_of}
 use Rattle.table.specs.LayoutLaws.{layout}
-use Rattle.roles.specs.Under.{UnderFrom}
 use Rattle.roles.specs.UnderLaws.{under_start, under_turn, under_whole, row_low}
 use Rattle.roles.proofs.roles_under.Goals as goal
 
@@ -23,9 +21,9 @@ widened-under-requires c = let low = row_low _ c.requires.0 (c.loop-k.k - 1) (om
 
 pub loop-k-preserved : goal.loop-k-preserved
 loop-k-preserved c = (
-      omega arith,
-      under_turn _ c.requires.0 _ (omega arith) (omega arith) _ _ _ _ (c.wide-narrower.ensures ∙ c.narrower_of.ensures) (c.wide-wider.ensures ∙ c.wider_of.ensures) c.loop-k.invariant.1 c.widened-under.ensures,
-    )
+  omega arith,
+  under_turn _ c.requires.0 _ (omega arith) (omega arith) _ _ _ _ (c.wide-narrower.ensures ∙ c.narrower_of.ensures) (c.wide-wider.ensures ∙ c.wider_of.ensures) c.loop-k.invariant.1 c.widened-under.ensures,
+)
 
 pub returns : goal.returns
 returns c = under_whole _ _ _ (omega arith) c.loop-k.invariant.1

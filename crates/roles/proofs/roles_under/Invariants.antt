@@ -1,11 +1,7 @@
 -- `roles::roles_under` meets its contract. The invariant: the masks say the order over the role rows from row k on; the measure is k.
-use mathlib.Core.Path.{◌∙◌}
-use Prim.Native.Nat.{◌-◌, ◌≤◌}
-use native.Mathlib.Omega.{arith}
+use Prim.Native.Nat.{◌≤◌}
 use Rattle.table.specs.Reading.{table_of}
-use Rattle.table.specs.LayoutLaws.{layout}
 use Rattle.roles.specs.Under.{UnderFrom}
-use Rattle.roles.specs.UnderLaws.{under_start, under_turn, under_whole, row_low}
 use Rattle.roles.proofs.roles_under.Given as goal
 
 abbrev pub invariant-loop-k : goal.invariant-loop-k

@@ -1,10 +1,7 @@
 -- `roles::widened` meets its contract. The invariant: the first s roles have the row more, the others are as they were; the measure is what is
 -- left of the roles.
 use mathlib.Core.Path.{subst, sym, ◌∙◌}
-use mathlib.Core.Logic.{⊎_elim}
-use Prim.Native.Nat.{◌-◌}
 use native.Mathlib.Omega.{arith}
-use Rattle.bounds.specs.Bounds.{max_roles}
 use Rattle.roles.specs.Under.{WidenedTo}
 use Rattle.roles.specs.UnderLaws.{widened_start, widened_hit, widened_miss, widened_whole}
 use Rattle.std.proofs.Common.{rules}
@@ -25,9 +22,9 @@ has_role-requires c = c.requires.1
 
 pub loop-s-preserved : goal.loop-s-preserved
 loop-s-preserved c = elim c.if-has_role.branch [
-    then-has_role w ↦ subst (WidenedTo _ _ _ _) (sym w.mask-is) (widened_hit _ _ _ _ _ (omega arith) (sym c.has_role.ensures ∙ w.if-has_role.true) c.loop-s.invariant)
+  | then-has_role w ↦ subst (WidenedTo _ _ _ _) (sym w.mask-is) (widened_hit _ _ _ _ _ (omega arith) (sym c.has_role.ensures ∙ w.if-has_role.true) c.loop-s.invariant)
   | else-has_role w ↦ subst (WidenedTo _ _ _ _) (sym w.mask-is) (widened_miss _ _ _ _ _ (sym c.has_role.ensures ∙ w.if-has_role.false) c.loop-s.invariant)
-  ]
+]
 
 pub returns : goal.returns
 returns c = widened_whole _ _ _ _ _ (omega arith) c.loop-s.invariant

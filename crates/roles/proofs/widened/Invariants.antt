@@ -1,12 +1,8 @@
 -- `roles::widened` meets its contract. The invariant: the first s roles have the row more, the others are as they were; the measure is what is
 -- left of the roles.
-use mathlib.Core.Path.{subst, sym, ◌∙◌}
-use mathlib.Core.Logic.{⊎_elim}
 use Prim.Native.Nat.{◌-◌}
-use native.Mathlib.Omega.{arith}
 use Rattle.bounds.specs.Bounds.{max_roles}
 use Rattle.roles.specs.Under.{WidenedTo}
-use Rattle.roles.specs.UnderLaws.{widened_start, widened_hit, widened_miss, widened_whole}
 use Rattle.roles.proofs.widened.Given as goal
 
 abbrev pub invariant-loop-s : goal.invariant-loop-s

@@ -1,7 +1,6 @@
 -- `table::line_start` meets its contract. The invariant: `at` is where line i begins; the layout of a readable table keeps it inside.
 -- The measure is how many lines are left.
 use mathlib.Core.Path.{◌≡◌, ap, ◌∙◌}
-use Prim.Native.Nat.{◌-◌, ◌≤◌}
 use native.Mathlib.Omega.{arith}
 use Rattle.table.specs.Reading.{restrictions_place, header_of}
 use Rattle.table.specs.ReadLaws.{header_long}

@@ -3,7 +3,6 @@ use mathlib.Core.Path.{sym, ◌∙◌}
 use Rattle.std.specs.Prelude.{◌≡◌, true}
 use Rattle.table.specs.Reading.{marked}
 use native.Mathlib.Omega.{arith}
-use borrow.Author.Tests.{not-true, not-false}
 use Rattle.table.specs.ReadLaws.{header_short, header_mark, header_version}
 use Rattle.table.proofs.Laws.{stops, header_stop, header_cut, header_done}
 use Rattle.table.proofs.read_header.Goals as goal

@@ -1,12 +1,10 @@
 -- `table::read_lines` meets its contract. The invariant: what is left to read from here is what there was to read from the start;
 -- the measure is how many lines are left.
-use mathlib.Core.Path.{◌≡◌, sym, ◌∙◌}
+use mathlib.Core.Path.{◌≡◌}
 use Prim.Native.Nat.{◌-◌, ◌≤◌}
-use native.Mathlib.Omega.{arith}
 use Rattle.bounds.specs.Bounds.{bounds}
 use Rattle.table.specs.Reading.{read_lines}
 use Rattle.table.specs.Step.{step_of}
-use Rattle.table.proofs.Laws.{turn_start, turn_end, turn_stop, turn_next}
 use Rattle.table.proofs.read_lines.Given as goal
 
 abbrev pub invariant-loop-n : goal.invariant-loop-n

@@ -1,7 +1,6 @@
 -- `table::read_role` meets its contract: a law for each refusal, in order, and one for the role that is read.
 use mathlib.Core.Path.{sym, ◌∙◌}
 use native.Mathlib.Omega.{arith}
-use borrow.Author.Tests.{not-true, not-false}
 use Rattle.table.specs.ReadLaws.{code_short}
 use Rattle.table.proofs.Laws.{stops, code_stop, code_next}
 use Rattle.table.proofs.read_role.Goals as goal

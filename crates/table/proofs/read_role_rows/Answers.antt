@@ -1,10 +1,7 @@
 -- `table::read_role_rows` meets its contract. The invariant: what is left to read from here is what there was to read from the start;
 -- the measure is how many role rows are left.
-use mathlib.Core.Path.{◌≡◌, sym, ◌∙◌}
-use Prim.Native.Nat.{◌-◌, ◌≤◌}
+use mathlib.Core.Path.{sym, ◌∙◌}
 use native.Mathlib.Omega.{arith}
-use Rattle.table.specs.Reading.{read_role_rows}
-use Rattle.table.specs.Step.{step_of}
 use Rattle.table.proofs.Laws.{turn_start, turn_end, turn_stop, turn_next}
 use Rattle.table.proofs.read_role_rows.Goals as goal
 

@@ -1,11 +1,9 @@
 -- `table::read_rows` meets its contract. The invariant: what is left to read from here is what there was to read from the start;
 -- the measure is how many rows are left.
-use mathlib.Core.Path.{◌≡◌, sym, ◌∙◌}
+use mathlib.Core.Path.{◌≡◌}
 use Prim.Native.Nat.{◌-◌, ◌≤◌}
-use native.Mathlib.Omega.{arith}
 use Rattle.table.specs.Reading.{read_rows}
 use Rattle.table.specs.Step.{step_of}
-use Rattle.table.proofs.Laws.{turn_start, turn_end, turn_stop, turn_next}
 use Rattle.table.proofs.read_rows.Given as goal
 
 abbrev pub invariant-loop-k : goal.invariant-loop-k

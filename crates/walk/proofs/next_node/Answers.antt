@@ -1,11 +1,5 @@
 -- `walk::next_node` meets its contract. The invariant: what comes after the first node comes after the one at hand. The measure is how many are chosen.
-use mathlib.Core.Path.{◌≡◌}
-use Prim.Native.Nat.{◌+◌, ◌^◌, ◌≤◌}
 use native.Mathlib.Omega.{arith}
-use lib.ListN.{length}
-use Rattle.el.specs.Table.{Table, atoms}
-use Rattle.bounds.specs.Bounds.{max_variables}
-use Rattle.walk.specs.Step.{Climbs}
 use Rattle.walk.specs.StepLaws.{climbs_start, climbs_up, next_sibling, next_none}
 use Rattle.std.proofs.Common.{rules}
 use Rattle.walk.proofs.next_node.Goals as goal

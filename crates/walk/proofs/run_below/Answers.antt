@@ -1,10 +1,7 @@
 -- `walk::run_below` meets its contract. The invariant: so far it went along nodes none of which ends the walk. The measure is what is left of the
 -- share.
-use Prim.Native.Nat.{◌-◌}
 use native.Mathlib.Omega.{arith}
-use Rattle.table.specs.Reading.{table_of}
 use Rattle.walk.specs.declared.Going.TheVariants.{Solved, Over}
-use Rattle.walk.specs.Step.{Running}
 use Rattle.walk.specs.GivenLaws.{given_level, level_is, given_sweep}
 use Rattle.walk.specs.RunLaws.{running_start, running_fits, running_on, running_ended, running_spent}
 use Rattle.std.proofs.Common.{rules}

@@ -33,7 +33,6 @@ use Rattle.table.specs.LayoutLaws.{layout, readable_header, refused_readable, re
 use Rattle.node.specs.Node.{node_of}
 use Rattle.walk.specs.declared.End.{End}
 use Rattle.walk.specs.declared.End.TheVariants.{Found, Spent}
-use Rattle.walk.specs.declared.End.TheVariants as End
 use Rattle.walk.specs.declared.Walked.{Walked}
 use Rattle.walk.specs.Step as step
 use Rattle.output.specs.Written.{written}

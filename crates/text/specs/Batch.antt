@@ -3,7 +3,7 @@
 --   read_text ns     == the reader's answer: `number place c r v e m`
 --   line_text part   == the part in hexadecimal, `-` for an empty one
 --   solve_text a out == the solver's answer: `number count place` and the output in hexadecimal, `-` for an empty one
-use Rattle.std.specs.Prelude.{List, [], ◌∷◌, ◌++◌, ℕ}
+use Rattle.std.specs.Prelude.{List, ◌++◌, ℕ}
 use Rattle.answer.specs.declared.Handed.{Handed}
 use Rattle.text.specs.Text.{space, newline, numbers_text, answer_text, hex_text}
 

@@ -1,7 +1,6 @@
 -- `text::put_atom_of` meets its contract. Nothing, or what stands between two atoms and the atom.
 use mathlib.Core.Path.{sym, ◌∙◌}
 use native.Mathlib.Omega.{arith}
-use borrow.Author.Tests.{not-true, not-false}
 use Rattle.table.specs.LayoutLaws.{layout}
 use Rattle.text.proofs.ListingLaws.{atom_out, atom_there}
 use Rattle.text.proofs.put_atom_of.Goals as goal

@@ -1,5 +1,4 @@
 -- `text::put_between` meets its contract. A law for each of the two answers.
-use Rattle.text.specs.AppendLaws.{appended_length}
 use Rattle.text.proofs.Laws.{between_later, between_first}
 use Rattle.text.proofs.put_between.Goals as goal
 

@@ -1,10 +1,6 @@
 -- `text::put_bytes` meets its contract. The invariant: the first i bytes are written. The measure is how many are left.
-use Prim.Native.Nat.{◌-◌, ◌≤◌}
 use native.Mathlib.Omega.{arith}
-use lib.ListN.{length, take}
 use Rattle.text.specs.Text.{bytes_text}
-use Rattle.text.specs.AppendLaws.{appended_length}
-use Rattle.text.specs.Append.{Appended}
 use Rattle.text.proofs.Laws.{bytes_turn, bytes_start, all_of}
 use Rattle.text.proofs.put_bytes.Goals as goal
 

@@ -1,11 +1,8 @@
 -- `text::put_numbers` meets its contract. The invariant: the first i numbers are written. The measure is how many are left.
 use Prim.Native.Nat.{◌-◌, ◌≤◌}
-use native.Mathlib.Omega.{arith}
 use lib.ListN.{length, take}
 use Rattle.text.specs.Text.{numbers_text}
-use Rattle.text.specs.AppendLaws.{appended_length}
 use Rattle.text.specs.Append.{Appended}
-use Rattle.text.proofs.Laws.{numbers_turn, numbers_start, all_of}
 use Rattle.text.proofs.put_numbers.Given as goal
 
 abbrev pub invariant-loop-i : goal.invariant-loop-i

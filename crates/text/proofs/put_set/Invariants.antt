@@ -1,14 +1,7 @@
 -- `text::put_set` meets its contract. The invariant: the atoms with a number below i are written, and `later` says whether there were any. The measure is how many are left.
-use mathlib.Core.Path.{◌≡◌, ap, ◌∙◌}
 use Prim.Native.Nat.{◌-◌, ◌≤◌}
-use native.Mathlib.Omega.{arith}
-use Rattle.el.specs.Table.{atoms}
-use Rattle.table.specs.declared.Header.{Header}
 use Rattle.table.specs.Reading.{table_of}
-use Rattle.table.specs.LayoutLaws.{layout}
-use Rattle.text.specs.AppendLaws.{appended_length}
 use Rattle.text.specs.Listing.{SetBegun}
-use Rattle.text.proofs.ListingLaws.{atoms_are, begun_none, begun_turn, set_text_lem}
 use Rattle.text.proofs.put_set.Given as goal
 
 abbrev pub invariant-loop-i : goal.invariant-loop-i

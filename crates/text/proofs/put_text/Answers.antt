@@ -1,10 +1,8 @@
 -- `text::put_text` meets its contract. The invariant: the first i bytes are written. The measure is how many are left.
 use mathlib.Core.List.{List}
-use Prim.Native.Nat.{ℕ, ◌-◌, ◌≤◌}
+use Prim.Native.Nat.{ℕ}
 use native.Mathlib.Omega.{arith}
-use lib.ListN.{length, take}
-use Rattle.text.specs.AppendLaws.{appended_none, appended_length}
-use Rattle.text.specs.Append.{Appended}
+use Rattle.text.specs.AppendLaws.{appended_none}
 use Rattle.text.proofs.Laws.{text_turn, all_of}
 use Rattle.text.proofs.put_text.Goals as goal
 

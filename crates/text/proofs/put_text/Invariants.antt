@@ -1,11 +1,7 @@
 -- `text::put_text` meets its contract. The invariant: the first i bytes are written. The measure is how many are left.
-use mathlib.Core.List.{List}
-use Prim.Native.Nat.{ℕ, ◌-◌, ◌≤◌}
-use native.Mathlib.Omega.{arith}
+use Prim.Native.Nat.{◌-◌, ◌≤◌}
 use lib.ListN.{length, take}
-use Rattle.text.specs.AppendLaws.{appended_none, appended_length}
 use Rattle.text.specs.Append.{Appended}
-use Rattle.text.proofs.Laws.{text_turn, all_of}
 use Rattle.text.proofs.put_text.Given as goal
 
 abbrev pub invariant-loop-i : goal.invariant-loop-i

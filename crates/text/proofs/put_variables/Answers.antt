@@ -1,11 +1,7 @@
 -- `text::put_variables` meets its contract. The invariant: the lines of the first x variables are written. The measure is how many are left.
 use mathlib.Core.Path.{◌≡◌, ap}
-use Prim.Native.Nat.{◌-◌, ◌≤◌}
 use native.Mathlib.Omega.{arith}
-use Rattle.table.specs.Reading.{table_of}
-use Rattle.text.specs.Append.{Appended}
-use Rattle.text.specs.AppendLaws.{appended_as, appended_length}
-use Rattle.output.specs.Written.{set_in}
+use Rattle.text.specs.AppendLaws.{appended_as}
 use Rattle.text.specs.Listing.{variable_lines}
 use Rattle.text.proofs.ListingLaws.{lines_none, lines_turn}
 use Rattle.text.proofs.put_variables.Goals as goal

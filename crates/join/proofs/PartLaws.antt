@@ -5,13 +5,19 @@
 --   first_line_lem    == number, count and place
 --   part_long, part_other, part_solved == a window of the text
 --   window_less, window_in, window_end == window after window the text comes to its end
+--   window_next   == the windows make the text
+--   run_bytes, run_text == what is written of a file's first bytes is the text of the whole file
 --   prepared_long, prepared_refused, prepared_solved == what comes of a text is prepared
-use mathlib.Core.Path.{◌≡◌, refl, sym, ap, ap₂, ◌∙◌}
+use mathlib.Core.Path.{◌≡◌, refl, sym, ap, ap₂, subst, ◌∙◌}
 use mathlib.Core.List.{List, [], ◌++◌, append-nil}
 use Prim.Native.Nat.{ℕ, zero, suc, ◌+◌, ◌*◌, ◌-◌, ◌≤◌, ◌<◌}
 use native.Mathlib.Omega.{arith}
 use lib.ListN.{length, take, drop, length-take, length-drop}
+use Rattle.std.proofs.lemmas.List.{take_all}
+use Rattle.std.proofs.Math.Seq.{take-take, take-add}
+use Rattle.std.specs.Prelude.{true, Option, Some, None, Result, Ok, Err, IfOk, IfSome}
 use Rattle.std.specs.Counts.{IsPrefixLen}
+use Rattle.std.specs.Io.KnownBytes.{Appends}
 use Rattle.bounds.specs.Bounds.{max_constants, max_variables, max_roles, set_bytes}
 use Rattle.answer.specs.declared.Handed.{Handed}
 use Rattle.answer.specs.Handed.{handed}
@@ -35,7 +41,8 @@ use Rattle.owl_span.specs.Span.{group_names, SpansDone}
 use Rattle.owl_span.specs.SpanLaws.{spans_of}
 use Rattle.join.specs.Join.{join_most, join_budget, join_table, join_output, long_text, numbers_line, join_as, file_text, join_text}
 use Rattle.join.specs.Part.{Prepared, Solved}
-use Rattle.join.specs.JoinLaws.{joined_refused, joined_solved, solved_facts, join_long, join_short}
+use Rattle.join.specs.declared.Written.{Written}
+use Rattle.join.specs.JoinLaws.{joined_refused, joined_solved, solved_facts, join_long, join_short, first_bytes}
 
 ----------------------------------------------------------------------------------------------------
 -- Names
@@ -145,3 +152,40 @@ module _ (from room n : ℕ) (text a : List ℕ) (h : IsPrefixLen n a) (e : take
   -- a window that is not full ends the text
   pub window_end : from ≤ length text → n < room → from + n ≡ length text
   window_end l k = let w = window_size in let z : n ≡ length text - from = w.2 k in omega arith
+
+  -- what stands before a window, and the window
+  pub window_next : take from text ++ take n a ≡ take (from + n) text
+  window_next =
+      let w = window_size in
+      let z : n ≤ room = w.0 in
+      let same : take n a ≡ take n (drop from text) =
+      sym (take_all n (take n a) (omega (arith, h.1))) ∙ ap (take n) e ∙ take-take n room (drop from text) z
+      in
+      ap (λ (l : List ℕ). take from text ++ l) same ∙ sym (take-add from n text)
+
+----------------------------------------------------------------------------------------------------
+-- The first bytes of a file
+
+module _ (file : Option (List ℕ)) (front : List ℕ) (room : ℕ) (m : room ≡ join_most + 1) (known : IfSome file (λ xs. front ≡ take room xs)) where
+  text_known : IfSome file (λ xs. join_text front ≡ join_text xs)
+  text_known = go file known
+    where
+      go : (f : Option (List ℕ)) → IfSome f (λ xs. front ≡ take room xs) → IfSome f (λ xs. join_text front ≡ join_text xs)
+      go None k = tt
+      go (Some xs) k = ap join_text (k ∙ ap (λ (n : ℕ). take n xs) m) ∙ first_bytes xs
+
+  on_known : (P : List ℕ → Type 0) → P (join_text front) → IfSome file (λ xs. P (join_text xs))
+  on_known P h = go file text_known
+    where
+      go : (f : Option (List ℕ)) → IfSome f (λ xs. join_text front ≡ join_text xs) → IfSome f (λ xs. P (join_text xs))
+      go None k = tt
+      go (Some xs) k = subst P k h
+
+  pub run_bytes : {E : Type 0} (r : Result Written E) → IfOk r (λ w. w.whole ≡ true → w.bytes ≡ length (join_text front)) → IfOk r (λ w. w.whole ≡ true → IfSome file (λ xs. w.bytes ≡ length (join_text xs)))
+  run_bytes (Ok w) h = λ e. on_known (λ t. w.bytes ≡ length t) (h e)
+  run_bytes (Err e) h = tt
+
+  pub run_text : {E : Type 0} (before after : Option (List ℕ)) (r : Result Written E) → IfOk r (λ w. w.whole ≡ true → Appends before after (join_text front))
+      → IfOk r (λ w. w.whole ≡ true → IfSome file (λ xs. Appends before after (join_text xs)))
+  run_text before after (Ok w) h = λ e. on_known (Appends before after) (h e)
+  run_text before after (Err e) h = tt

@@ -7,7 +7,7 @@
 --   solved_facts    == that table is readable and has the names of the text
 --   join_long, join_short == the text of a long file, and of one that is read
 --   first_bytes     == THE FIRST 65,537 BYTES OF A FILE HAVE THE TEXT OF THE WHOLE FILE
-use Rattle.std.specs.Prelude.{◌≡◌, Bool, true, false, List, [], ◌++◌, ℕ, zero, ◌+◌, ◌≤◌, ◌<◌, T, eqb, length, take, drop}
+use Rattle.std.specs.Prelude.{◌≡◌, Bool, true, false, List, [], ◌++◌, ℕ, ◌+◌, ◌≤◌, ◌<◌, T, eqb, length, take, drop}
 use Rattle.std.proofs.Common.{sym, ap, subst, ◌∙◌, arith, length-append, length-take, take_all, eq-eqb, ne_eqb, lt-ltb, le-ltb}
 use Rattle.std.proofs.Math.Decide.{ℕ_discrete, dec_le}
 use Rattle.el.specs.Table.{Table}
@@ -20,7 +20,7 @@ use Rattle.owl.specs.Naming.{Names, names_of}
 use Rattle.owl.specs.Flattening as flat
 use Rattle.owl.specs.Mention.{names_in}
 use Rattle.owl.specs.MentionLaws.{names_said}
-use Rattle.owl_answer.specs.Owl.{Owl, over, short, made, OwlAt, spoiled, unknown, said}
+use Rattle.owl_answer.specs.Owl.{Owl, TableAt, over, short, made, OwlAt, spoiled, unknown, said}
 use Rattle.owl_answer.specs.OwlLaws.{owl_some, owl_unique, owl_table_lem}
 use Rattle.join.specs.Join.{join_most, join_table, join_output, long_text, owl_of, Join, join_as, solved_join, joined_by, joined, file_text, join_text}
 use Rattle.join.specs.Part.{Solved}
@@ -32,9 +32,12 @@ owl_of_lem {s} x = owl_unique (owl_some s join_table).1 x
 pub owl_inside : {s out : List ℕ} {a : Owl} → OwlAt s out a → a.number ≡ 0 → a.count ≤ length a.buffer
 owl_inside (spoiled x) z = absurd (x z)
 owl_inside (unknown e h) z = absurd (let w : ⊥ = omega arith in w)
-owl_inside (said f h e (over x)) z = absurd (let w : ⊥ = omega arith in w)
-owl_inside (said f h e (short x k)) z = absurd (let w : ⊥ = omega arith in w)
-owl_inside {s} {out} (said f h e (made x k)) z = let b = bytes_of 1 (flat.flat_table f) in let n : length (b ++ drop (length b) out) ≡ length b + length (drop (length b) out) = length-append b (drop (length b) out) in omega arith
+owl_inside {s} {out} (said f h e x) z = go f x z
+  where
+    go : (f : File) {a : Owl} → TableAt (flat.flat_table f) out a → a.number ≡ 0 → a.count ≤ length a.buffer
+    go f (over x) z = absurd (let w : ⊥ = omega arith in w)
+    go f (short x k) z = absurd (let w : ⊥ = omega arith in w)
+    go f (made x k) z = let b = bytes_of 1 (flat.flat_table f) in let n : length (b ++ drop (length b) out) ≡ length b + length (drop (length b) out) = length-append b (drop (length b) out) in omega arith
 
 joined_by_lem : (a : Owl) (b : Bool) → eqb a.number 0 ≡ b → joined_by a ≡ elim b [ true ↦ solved_join (take a.count a.buffer) | false ↦ join_as a.number a.count a.place [] join_output ]
 unfolding joined_by

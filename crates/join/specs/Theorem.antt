@@ -49,7 +49,7 @@ use Rattle.owl.specs.TextLaws.{accepted_means}
 use Rattle.owl.specs.Mention.{undeclared}
 use Rattle.owl.specs.MentionLaws.{names_said}
 use Rattle.owl.specs.UndeclaredLaws.{undeclared_means}
-use Rattle.owl_answer.specs.Owl.{Owl, owl, InBounds, over, short, made, OwlAt, spoiled, unknown, said}
+use Rattle.owl_answer.specs.Owl.{Owl, owl, InBounds, TableAt, over, short, made, OwlAt, spoiled, unknown, said}
 use Rattle.owl_answer.specs.OwlLaws.{in_fits}
 use Rattle.spell.specs.Spelling.{enclosed, atom_texts, spelt_to, named_lines}
 use Rattle.spell.specs.SpellingLaws.{lines_sets, spelt_equation}
@@ -121,9 +121,12 @@ module _ (f : File) (known : T (all_known f)) (within : InBounds (flat.flat_tabl
 pub join_fits : {s : List ℕ} {a : Owl} (f : File) → Says s f → OwlAt s join_table a → a.number ≡ 17 → ⊥
 join_fits {s} f h (spoiled x) z = x ((accepted_means s).1 (f, h))
 join_fits f h (unknown e k) z = let w : ⊥ = omega arith in w
-join_fits f h (said g k e (over x)) z = let w : ⊥ = omega arith in w
-join_fits {s} f h (said g k e (short x l)) z = let r = flat_room g ((undeclared_means s g k).0 e) x in let w : ⊥ = omega arith in w
-join_fits f h (said g k e (made x l)) z = let w : ⊥ = omega arith in w
+join_fits {s} f h (said g k e x) z = go g ((undeclared_means s g k).0 e) x z
+  where
+    go : (g : File) {a : Owl} → T (all_known g) → TableAt (flat.flat_table g) join_table a → a.number ≡ 17 → ⊥
+    go g known (over x) z = let w : ⊥ = omega arith in w
+    go g known (short x l) z = let r = flat_room g known x in let w : ⊥ = omega arith in w
+    go g known (made x l) z = let w : ⊥ = omega arith in w
 
 ----------------------------------------------------------------------------------------------------
 -- A file that is read: the text says it, its names are declared, and its table passes no bound

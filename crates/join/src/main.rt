@@ -3,7 +3,7 @@
 // The text is written in windows, one after the other: a fresh variable is spelt out where it stands, so the text may be longer than any buffer.
 #![tactic(auto)]
 
-ghost use Rattle.std.specs.Prelude.{◌≡◌, true, ◌*◌, ◌≤◌, length, take, IfOk};
+ghost use Rattle.std.specs.Prelude.{◌≡◌, true, ◌*◌, ◌≤◌, length, take, IfOk, IfSome};
 ghost use Rattle.std.specs.Io.KnownBytes.{Appends};
 ghost use Rattle.std.specs.Counts.{IsPrefixLen};
 ghost use Rattle.bounds.specs.Bounds.{set_bytes, max_variables};
@@ -18,7 +18,7 @@ ghost use Rattle.join.specs.Part.{Prepared, Solved};
 use bounds::Count;
 use spell::Pen;
 use std::io;
-use std::io::Write;
+use std::io::{Read, Write};
 
 // The most bytes of a file.
 const MOST: usize = 65536;
@@ -185,9 +185,17 @@ fn write_joined<W: Write>(to: &mut W, file: &[u8]) -> io::Result<Written>
     )
 }
 
-fn main(rt: HostRuntime) -> io::Result<()> {
+// Joins the file that is read, and writes its text.
+fn run<R: Read, W: Write>(from: &mut R, to: &mut W) -> io::Result<Written>
+    ensures bytes { IfOk result (λ w. w.whole ≡ true → IfSome (R.remaining from.old) (λ xs. w.bytes ≡ length (join_text xs))) }
+    ensures text { IfOk result (λ w. w.whole ≡ true → IfSome (R.remaining from.old) (λ xs. Appends (W.contents to.old) (W.contents to.new) (join_text xs))) }
+{
     let mut file = [0u8; MOST + 1];
-    let n = input::read_full(&mut rt.stdin(), &mut file)?;
-    write_joined(&mut rt.stdout(), &file[..n])?;
+    let n = input::read_full(from, &mut file)?;
+    write_joined(to, &file[..n])
+}
+
+fn main(rt: HostRuntime) -> io::Result<()> {
+    run(&mut rt.stdin(), &mut rt.stdout())?;
     Ok(())
 }

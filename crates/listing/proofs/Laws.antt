@@ -1,12 +1,15 @@
--- The law that carries the report to its text.
+-- The laws that carry the report to its text, and the program to the report.
 --
 --   report_is == the text of the solver's answer, written to a buffer that is long enough, is the report
-use mathlib.Core.Path.{◌≡◌, ap₂, ◌∙◌}
+--   run_is    == what is written of an input's first bytes is the report of the whole input
+use mathlib.Core.Path.{◌≡◌, ap, ap₂, subst, ◌∙◌}
 use mathlib.Core.List.{List, [], ◌∷◌}
 use Prim.Native.Nat.{ℕ, ◌≤◌}
 use native.Mathlib.Omega.{arith}
 use lib.ListN.{length, take}
+use Rattle.std.specs.Prelude.{Option, Some, None, Result, Ok, Err, OnOk, IfSome}
 use Rattle.std.specs.Counts.{IsPrefixLen}
+use Rattle.std.specs.Io.KnownBytes.{Appends}
 use Rattle.answer.specs.declared.Handed.{Handed}
 use Rattle.answer.specs.Handed.{handed}
 use Rattle.text.specs.Append.{Appended}
@@ -15,6 +18,8 @@ use Rattle.text.specs.Listing.{listing_text}
 use Rattle.text.specs.Room.{Numbers, listing_room}
 use Rattle.text.proofs.FitsLaws.{listing_fits}
 use Rattle.makrothel.specs.Solve.{answer}
+use Rattle.table.specs.Bytes.{enough_length}
+use Rattle.listing.specs.ReportLaws.{longer_input}
 use Rattle.listing.specs.Report.{listing_budget, listing_output, answer_text, report_text}
 
 pub report_is : (s : List ℕ) (a : Handed) (out : List ℕ) {b after : List ℕ} {r : ℕ} → a ≡ handed (answer s listing_budget listing_output).says → out ≡ (answer s listing_budget listing_output).output
@@ -23,3 +28,9 @@ unfolding answer_text report_text
 report_is s a out e o n room h =
     let w = appended_whole h (omega (arith, listing_fits s a out n)) in
     ((w.0, w.1), w.2 ∙ ap₂ (listing_text s) e o)
+
+pub run_is : {A E : Type 0} (r : Result A E) (input before after : Option (List ℕ)) (front text : List ℕ) (room : ℕ) → room ≡ enough_length → IfSome input (λ xs. front ≡ take room xs) → text ≡ report_text front
+    → OnOk r (Appends before after text) → OnOk r (IfSome input (λ xs. Appends before after (report_text xs)))
+run_is (Err e) input before after front text room m k w h = tt
+run_is (Ok x) None before after front text room m k w h = tt
+run_is (Ok x) (Some xs) before after front text room m k w h = subst (Appends before after) (w ∙ ap report_text (k ∙ ap (λ n. take n xs) m) ∙ longer_input xs) h

@@ -1,13 +1,15 @@
 // Reads a table from standard input, solves it and writes the answer as text.
 #![tactic(auto)]
 
-ghost use Rattle.std.specs.Prelude.{◌≡◌, ◌≤◌, length, take};
+ghost use Rattle.std.specs.Prelude.{◌≡◌, ◌≤◌, length, take, OnOk, IfSome};
+ghost use Rattle.std.specs.Io.KnownBytes.{Appends};
 ghost use Rattle.std.specs.Counts.{IsPrefixLen};
 ghost use Rattle.text.specs.Room.{listing_room};
 ghost use Rattle.listing.specs.Report.{report_text};
 
 use bounds::Count;
 use std::io;
+use std::io::{Read, Write};
 
 // One byte more than the longest readable table has, so that a longer input is answered as a longer one.
 const MOST: usize = table::HEADER
@@ -33,10 +35,17 @@ fn report(table: &[u8], buffer: &mut [u8]) -> usize
     text::listing(table, a, &output, buffer)
 }
 
-fn main(rt: HostRuntime) -> io::Result<()> {
+// Reads a table, solves it and writes the answer as text.
+fn run<R: Read, W: Write>(input: &mut R, output: &mut W) -> io::Result<()>
+    ensures { OnOk result (IfSome (R.remaining input.old) (λ xs. Appends (W.contents output.old) (W.contents output.new) (report_text xs))) }
+{
     let mut table = [0u8; MOST];
-    let n = input::read_full(&mut rt.stdin(), &mut table)?;
+    let n = input::read_full(input, &mut table)?;
     let mut buffer = [0u8; text::LISTING_ROOM];
     let end = report(&table[..n], &mut buffer);
-    rt.write_all(&buffer[..end])
+    output.write_all(&buffer[..end])
+}
+
+fn main(rt: HostRuntime) -> io::Result<()> {
+    run(&mut rt.stdin(), &mut rt.stdout())
 }

@@ -109,7 +109,7 @@ fn part(
 }
 
 // How many bytes of the text were written, and whether that is all of it.
-#[derive(Drop)]
+#[derive(Clone, Copy)]
 struct Written {
     whole: bool,
     bytes: usize,

@@ -25,7 +25,7 @@ use table::Kind;
 
 // The rows of a table for the line test: bit k of `over[j]` says that row k's role lies under row j's, and `inner[k]` is the code of row k's
 // filler.
-#[derive(Drop)]
+#[derive(Clone, Copy)]
 pub struct Rows {
     pub over: [RowMask; bounds::MAX_RESTRICTIONS],
     pub inner: [u8; bounds::MAX_RESTRICTIONS],

@@ -8,7 +8,7 @@ ghost use Rattle.owl_axiom.specs.Axioms.{FirstItem, BehindNames, WordSides, Next
 ghost use Rattle.owl_axiom.specs.Fillers.{NextFiller};
 
 // An axiom: 0 none, 9 SubClassOf, 10 EquivalentClasses; the bytes behind which its sides and the items behind it begin.
-#[derive(Drop)]
+#[derive(Clone, Copy)]
 pub struct Axiom {
     pub kind: u8,
     pub left: usize,
@@ -17,7 +17,7 @@ pub struct Axiom {
 }
 
 // Where a filler that is no name begins.
-#[derive(Drop)]
+#[derive(Clone, Copy)]
 pub struct Filler {
     pub found: bool,
     pub at: usize,

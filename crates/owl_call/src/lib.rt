@@ -10,7 +10,7 @@ ghost use Rattle.owl_call.specs.Call.{Counted, CountsAre, LinesIn, header_bytes,
 use owl_line::Passed;
 
 // How many constants, roles, open names, variables and rows there are, where none of their bounds is passed.
-#[derive(Drop)]
+#[derive(Clone, Copy)]
 pub struct Totals {
     pub within: bool,
     pub constants: usize,
@@ -72,7 +72,7 @@ fn counts(s: &[u8]) -> Totals
 }
 
 // The answer to a text: 0, and how long its table is; or the number and the place of a refusal.
-#[derive(Drop)]
+#[derive(Clone, Copy)]
 pub struct Answered {
     pub number: u32,
     pub count: usize,

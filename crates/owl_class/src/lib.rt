@@ -12,14 +12,14 @@ ghost use Rattle.owl_class.specs.Ends.{rest_tokens, deeper, skip, Jumps, EndsAt,
 ghost use Rattle.owl_class.specs.Conjuncts.{ConjunctIs, EntryIs};
 
 // Where a conjunct is.
-#[derive(Drop)]
+#[derive(Clone, Copy)]
 pub struct Found {
     pub kind: u8,
     pub at: usize,
 }
 
 // An entry of a line.
-#[derive(Drop)]
+#[derive(Clone, Copy)]
 pub struct Entry {
     pub kind: u8,
     pub number: usize,

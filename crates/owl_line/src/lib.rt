@@ -16,7 +16,7 @@ pub struct Side {
 }
 
 // The lines that were passed: whether they pass a bound; if not, how many there are, and the byte behind them in the buffer.
-#[derive(Drop)]
+#[derive(Clone, Copy)]
 pub struct Passed {
     pub over: bool,
     pub lines: usize,

@@ -13,7 +13,7 @@ ghost use Rattle.owl_name.specs.Declared.{one_if};
 ghost use Rattle.owl_row.specs.Rows.{first_row, different_rows, named_at, alike_at, adds_row, own_here, fresh_before, IsNumber, IsFiller};
 
 // A filler: 0 top, 1 a constant, 2 an open name, 3 a fresh variable, each but top with its number among its kind.
-#[derive(Drop)]
+#[derive(Clone, Copy)]
 pub struct Filling {
     pub kind: u8,
     pub number: usize,

@@ -11,14 +11,14 @@ ghost use Rattle.owl.specs.Grammar.{checked};
 ghost use Rattle.owl_text.specs.Levels.{column, moves, next, opener, inner, deeper, opened, in_block, refusing, Clear, Refused, Found};
 
 // 0 and place 0; or 10 or 11, and where the token begins.
-#[derive(Drop)]
+#[derive(Clone, Copy)]
 pub struct Checked {
     pub number: u32,
     pub place: usize,
 }
 
 // Where a reading ends: the byte from which its last token is sought, the verdict there, and the greatest depth before.
-#[derive(Drop)]
+#[derive(Clone, Copy)]
 pub struct End {
     pub at: usize,
     pub number: u32,

@@ -8,7 +8,7 @@ ghost use Rattle.owl.specs.Token.{is_plain, byte_class, between, run_length, sha
 ghost use Rattle.owl_token.specs.Keyword.{ends_line, AllPlain, run_of, Listed, other_kind};
 
 // A token: its kind, where it begins and where the text goes on.
-#[derive(Drop)]
+#[derive(Clone, Copy)]
 pub struct Token {
     pub kind: u8,
     pub place: usize,
@@ -16,14 +16,14 @@ pub struct Token {
 }
 
 // A run: where it ends, and what it is (`shapes`).
-#[derive(Drop)]
+#[derive(Clone, Copy)]
 pub struct Run {
     pub end: usize,
     pub shape: u8,
 }
 
 // A listed word.
-#[derive(Drop)]
+#[derive(Clone, Copy)]
 pub struct Word {
     pub kind: u8,
     pub size: usize,

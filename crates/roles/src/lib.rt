@@ -21,7 +21,7 @@ pub fn has_role(mask: RoleMask, role: usize) -> bool
 }
 
 // For each role the mask of the roles that lie under it.
-#[derive(Drop)]
+#[derive(Clone, Copy)]
 pub struct Under {
     pub mask: [RoleMask; MAX_ROLES],
 }

@@ -24,7 +24,7 @@ use bounds::SetNumber;
 use table::Kind;
 
 // How many bytes are still to be passed over, and the first free byte of the buffer.
-#[derive(Drop)]
+#[derive(Clone, Copy)]
 pub struct Pen {
     pub skip: usize,
     pub at: usize,

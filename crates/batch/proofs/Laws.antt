@@ -1,7 +1,7 @@
 -- Laws that carry the program's functions to what they answer.
 --
 --   length_few, room_few  == how long the table and the output of a question are
---   question-..           == the test of a question, by which part of it fails
+--   question_..           == the test of a question, by which part of it fails
 --   read_is, line_is, solve_is == the answer of a call, written to a line that is long enough
 --   reply_read, reply_line, reply_solve == the answer to a question, by its kind
 --   front, front_length   == the first bytes of an array that is filled with one byte

@@ -7,7 +7,7 @@
 --   p6_local, p6_local_solves                   == the local assignment of `deep` is X = {A}, and locality says that it solves
 --   ring_reaches, ring_apart                    == over the role rows (0, 2), (2, 1), (2, 0) role 0 reaches role 1, and role 1 does not reach role 0
 --   p6_more, more_most                          == the tables grow
---   growth_keeps, growth_back_keeps, ..-solving == growth applied
+--   growth_keeps, growth_back_keeps, .._solving == growth applied
 use Rattle.std.specs.Prelude.{◌≡◌, refl, Bool, true, false, ◌&&◌, ◌||◌, not, List, [], ◌∷◌, ℕ, zero, suc, ◌^◌, ◌<◌, T, eqb, ltb, length}
 use Rattle.std.proofs.Common.{inl, inr, arith, eqb→eq, ltb→lt, T_not}
 use Rattle.el.specs.Test.{any_below, all_below, every_of, bit}

@@ -6,7 +6,7 @@
 --   local_falls              == along a dependence of a local assignment the depth falls
 --   local_acyclic            == so it is acyclic
 --   Carries C C'             == whatever atom lies above C under γ lies above C' under σ
---   carries-..               == for each part of a line
+--   carries_..               == for each part of a line
 --   local_line, local_makes  == a line that γ makes true, what the local assignment induces makes true
 --   locality                 == "for every substitution that makes every line true there is an acyclic assignment that solves"
 --   solving_substitution     == what a solving assignment induces makes every line true

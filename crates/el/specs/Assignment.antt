@@ -78,7 +78,7 @@ unfoldable pub induced_to : Table → Assignment → ℕ → Substitution
 induced_to t a zero x = top
 induced_to t a (suc k) x = set_under t (induced_to t a k) (set_of a x)
 
--- as many times as there are variables: `induced-equation` says that this is enough
+-- as many times as there are variables: `induced_equation` says that this is enough
 unfoldable pub induced : Table → Assignment → Substitution
 induced t a = induced_to t a t.variables
 

@@ -6,7 +6,7 @@
 --   below C D     == C is below D
 --
 -- The role relation `under` is open: `under r s` says that a restriction with role r can lie below one with role s.
--- A table puts the order of its roles there; without role rows that is equality of numbers, `sameRole`.
+-- A table puts the order of its roles there; without role rows that is equality of numbers, `same_role`.
 use Rattle.std.specs.Prelude.{Bool, true, false, ◌&&◌, ◌||◌, ℕ, eqb}
 
 -- "A description is a conjunction of atoms; the empty one is top."

@@ -4,7 +4,7 @@
 --   moves_none, moves_one, moves_on == no node, one node, and some after others
 --   scan_moves           == nodes of which none passes, gone along at once
 --   off_in, off_out      == what is read off the whole list, within the budget and beyond
---   scan_means           == from the start it is the outcome that `upToFirst` and `first_of` give
+--   scan_means           == from the start it is the outcome that `up_to_first` and `first_of` give
 use Rattle.std.specs.Prelude.{◌≡◌, refl, Bool, true, false, List, [], ◌∷◌, ◌++◌, ℕ, zero, suc, ◌+◌, ◌-◌, ◌≤◌, ◌<◌, leb, length}
 use Rattle.std.proofs.Common.{sym, ap₂, ◌∙◌, append_assoc, arith, add-zero, zero-add, length-append, le-leb}
 use Rattle.std.proofs.Math.Path.{ap}

@@ -10,7 +10,7 @@
 --   any_below_step, any_below_none            == no number passes: by one more, by all
 --   any_below_same                           == tests that agree below n
 --   all_below_all, all_below_at, all_below_every, all_below_same == the same for every number below n
---   anyOf-.., everyOf-..                    == the same over a list, by places; `-append` over two lists; `anyOf-places` asks each place, `everyOf-both` follows from two tests
+--   any_of_.., every_of_..                    == the same over a list, by places; `_append` over two lists; `any_of_places` asks each place, `every_of_both` follows from two tests
 --   bit_none, bit_first, bit_next           == bits of 0, bit 0, and the bits after it
 use Rattle.std.specs.Prelude.{◌≡◌, Bool, true, false, ◌&&◌, ◌||◌, ◌⊎◌, eqb, get_or}
 use Rattle.std.proofs.Math.Path.{refl, sym, ap}

@@ -30,7 +30,7 @@ use Rattle.el.specs.Assignment.{Assignment, reaches, acyclic, induced}
 abbrev pub Node : Type 0
 Node = Assignment
 
--- "Only chosen variables have dependences": where s gives no set, `setOf s x` is the empty one
+-- "Only chosen variables have dependences": where s gives no set, `set_of s x` is the empty one
 unfoldable pub chosen : Node → ℕ → Bool
 chosen s x = ltb x (length s)
 

@@ -4,7 +4,7 @@
 --   join_table, join_output   == the buffers before the calls
 --   long_text                == what is said of a longer file
 --   numbers_line n c p       == number, count and place on a line
---   owl_of s                 == the answer to the text s: there is one, and only one (`owl-some`, `owl-unique`)
+--   owl_of s                 == the answer to the text s: there is one, and only one (`owl_some`, `owl_unique`)
 --   Join                    == number, count and place; the table that was solved, and the output
 --   join_as n c p table output == these as one
 --   answered_join table a    == the table, and the solver's answer a to it

@@ -4,10 +4,10 @@
 --   p5_table, p8_table, p12_table == they are readable
 --   p8_wider                      == and so within larger bounds
 --   p5_more, p8_more, p12_more    == a growth of each
---   empty-.., longer-.., short-.. == demand 1 at inputs that are refused
---   p5-.., p8-.., p9-.., p12-..   == the demands at the cases
---   r2-.., r5-..                  == the demands at tables of version 2
---   p3-.., bounds_read, p8_narrow, p8_counts == tables and outputs at the bounds, and within 01's own
+--   empty_.., longer_.., short_.. == demand 1 at inputs that are refused
+--   p5_.., p8_.., p9_.., p12_..   == the demands at the cases
+--   r2_.., r5_..                  == the demands at tables of version 2
+--   p3_.., bounds_read, p8_narrow, p8_counts == tables and outputs at the bounds, and within 01's own
 --   role_row_needed               == a "none" table that becomes "solved" by one more role row, and by nothing else
 use Rattle.std.specs.Prelude.{◌≡◌, refl, ◌⊎◌, List, [], ◌∷◌, ◌++◌, ℕ, ◌*◌, ◌≤◌, ◌<◌, T, length, take, replicate}
 use Rattle.std.proofs.Common.{sym, ap, ◌∙◌, inl, inr, arith}

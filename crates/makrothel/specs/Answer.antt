@@ -3,7 +3,7 @@
 --   read_as a h   == what the reader hands back under the answer a and the counts h
 --   read_answer r == the reader's number, place and counts for a reading
 --   has_line s n  == are the bytes s readable, and is there a line n?
---   line_span s n == the byte where line n of the bytes s begins, and its length; zeros where there is none; `spanIf`, by whether it is there
+--   line_span s n == the byte where line n of the bytes s begins, and its length; zeros where there is none; `span_if`, by whether it is there
 --   line_part s n == the bytes there
 --   BeginsIn r t k == the part r of the caller's table t begins at the byte k of t
 use Rattle.std.specs.Prelude.{◌≡◌, Bool, true, false, ◌&&◌, List, ℕ, ◌+◌, ltb, take, drop}

@@ -2,8 +2,8 @@
 --
 --   filler_read, entry_read             == what a declared code says
 --   filler_more, entry_more             == what is declared where there are fewer is declared where there are more
---   filler-.., entry-.., ..-fits        == the number that a code holds is in range
---   set-.., entry-..                    == the set of a filler's, an entry's code, by its kind
+--   filler_.., entry_.., .._fits        == the number that a code holds is in range
+--   set_.., entry_..                    == the set of a filler's, an entry's code, by its kind
 --   constant_kind, flat_kind            == the flat test, by the kinds of the codes
 use mathlib.Core.Path.{◌≡◌, sym, ap, ap₂, ◌∙◌}
 use mathlib.Core.Option.{some}

@@ -103,7 +103,7 @@ fn filler_set(set: &[SetNumber], f: u8) -> SetNumber
 }
 
 // The set of an entry of a line, where c constants are declared: a constant and a restriction are one atom. No entry is top or of no
-// range; these two arms are never taken, and answer as for constant 0, the entry that `entryFrom` gives them.
+// range; these two arms are never taken, and answer as for constant 0, the entry that `entry_from` gives them.
 fn entry_set(set: &[SetNumber], c: usize, x: u8) -> SetNumber
     requires { SetsGiven set.now × EntryFits c x }
     ensures { (t : Table) → c ≡ t.constants → result ≡ entry_set t set.now (entry_from x) }

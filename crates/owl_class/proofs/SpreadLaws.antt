@@ -2,7 +2,7 @@
 --
 --   zero_is, zero_not, one-is, one-not, less_is == the tests on numbers
 --   conjunct_none, conjunct_role, conjunct_inner, conjunct_class == whether a token is a conjunct
---   ends-.., outer-.., inner-..                == whether the class expression ends, and which brackets are open behind a token
+--   ends_.., outer_.., inner_..                == whether the class expression ends, and which brackets are open behind a token
 --   Spreading                                  == so many conjuncts were read, and the rest is behind the byte `at`
 --   spreading_start, spreading_turn, spreading_stop, spreading_end == token by token
 use mathlib.Core.Path.{◌≡◌, refl, sym, ap, ap₂, ◌∙◌}

@@ -4,7 +4,7 @@
 --   sort_mark, sort_word, sort_kept, sort_behind, sort_other == what the next name does after a token
 --   same_length, same_on, same_off, same_end   == two lists of bytes, byte by byte
 --   begins_on, begins_off, begins_short, begins_end == what a list of bytes begins with, byte by byte
---   same_short, short_full, full_short, same_full, thing-.., open-.. == a name is told by its kind and its bytes
+--   same_short, short_full, full_short, same_full, thing_.., open_.. == a name is told by its kind and its bytes
 --   declares_other, declares_name, none_there, name_there, declares_none == whether a token declares a name
 use mathlib.Core.Path.{◌≡◌, refl, sym, ap, ap₂, ◌∙◌}
 use mathlib.Core.Bool.{Bool, true, false, ◌&&◌, ◌||◌, not}

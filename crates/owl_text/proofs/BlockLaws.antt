@@ -3,7 +3,7 @@
 --   put                  == what is stored for one level is the state of every level of the block
 --   Reading              == the loop of `read`: n tokens were read, the array has the states of the block, and no token in it stopped
 --   reading_turn         == one token more
---   found-..             == what `read` hands back
+--   found_..             == what `read` hands back
 use mathlib.Core.Path.{◌≡◌, refl, sym, ap, ap₂, subst, ◌∙◌}
 use mathlib.Core.Bool.{Bool, true, false, ◌&&◌, ◌||◌, true≢false}
 use mathlib.Core.Logic.{◌⊎◌, inl, inr}

@@ -1,6 +1,6 @@
 -- Level by level, the text is read as by the machine.
 --
---   deeper-.., updated-.., marked-.. == small steps of the definitions
+--   deeper_.., updated_.., marked_.. == small steps of the definitions
 --   stack_of m d          == the states of the levels below d, innermost first
 --   machine s f n        == the machine after n tokens, its stack made of the levels
 --   turn, run_to         == a token that does not stop, and n of them

@@ -2,7 +2,7 @@
 --
 --   listed, unlisted        == a run is this listed word, or none of them
 --   listed_kind, other_kind_lem == the kind of a run that is listed, and of one that is not
---   other-..                == the kind of a run that is not listed, by its shape; a word's by what follows it
+--   other_..                == the kind of a run that is not listed, by its shape; a word's by what follows it
 use mathlib.Core.Path.{◌≡◌, refl, sym, ap, ap₂, subst, ◌∙◌}
 use mathlib.Core.Bool.{Bool, true, false, ◌&&◌, ◌||◌}
 use mathlib.Core.List.{[], List, ◌∷◌}

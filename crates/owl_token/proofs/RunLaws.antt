@@ -1,7 +1,7 @@
 -- Laws of the loops that read a text byte by byte, and of their tables.
 --
 --   value_at, value_by, tests_agree   == what one computed test says of a byte
---   class-.., full_byte, mark_none, between-.. == what the tests on a byte say
+--   class_.., full_byte, mark_none, between_.. == what the tests on a byte say
 --   shape_digit, shape_keeps          == the shape after a byte, and after a second plain one
 --   skip_start, skip_stop, skip_on, skip_end     == the loop over blanks and comments
 --   Running                                      == the loop over a run: its end, and its shape so far

@@ -87,7 +87,7 @@ module _ (d : Names) (t : Table) where
     unfoldable pub set_text : ℕ → ℕ → List ℕ
     set_text n s = joined_text (atom_texts (spelt_to n) s (atoms t))
 
-    -- "its name as written in the file, `: `, its atoms"; as deep as there are variables: `spelt-equation` says that this is enough
+    -- "its name as written in the file, `: `, its atoms"; as deep as there are variables: `spelt_equation` says that this is enough
     unfoldable pub variable_line : ℕ → List ℕ
     variable_line x = name_of d.opens x ++ (0x3A ∷ 0x20 ∷ (set_text t.variables (sets x) ++ newline))
 

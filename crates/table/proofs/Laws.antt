@@ -7,8 +7,8 @@
 --   then_last                    == a step whose last part cannot fail
 --   turn_start, turn_stop, turn_next, turn_end == the turns of a loop over many of a kind
 --   and_stop, and_on             == the test of two, by the one at which it ends
---   code-.., pair-..             == answers of the functions that read one code, and two
---   version-.., role-count-.., end_by, header-.., line-.., body-.., check-.. == answers of the function so named
+--   code_.., pair_..             == answers of the functions that read one code, and two
+--   version_.., role_count_.., end_by, header_.., line_.., body_.., check_.. == answers of the function so named
 use mathlib.Core.Path.{◌≡◌, refl, sym, ap, ap₂, ◌∙◌}
 use mathlib.Core.Bool.{Bool, true, false, ◌&&◌, ◌||◌, cond, true≢false, and-true, and-false}
 use mathlib.Core.List.{List, ◌∷◌}

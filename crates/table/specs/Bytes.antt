@@ -8,7 +8,7 @@
 --   bytes_of n t                == the bytes of the table t in version n
 --   IsVersion h                == the version of h is known, and version 1 has no role rows
 --   Within b h                 == the counts h are within the bounds b
---   line_right t l              == the line l has at most `maxLeft` left entries, and all it names is declared in t
+--   line_right t l              == the line l has at most `max_left` left entries, and all it names is declared in t
 --   Right h role_rows rows lines == a known version, counts within their bounds, and role rows, rows and lines that may stand under them
 --   Fits n t                   == the table t keeps to all that in version n
 --   IsTable s t                == the bytes s are a readable table, t: the bytes of t in a version in which it fits

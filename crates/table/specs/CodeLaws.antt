@@ -1,6 +1,6 @@
 -- Laws of codes: the kind of a code by its range, and the code of a kind.
 --
---   kind-..   == the kind of a code in each range
+--   kind_..   == the kind of a code in each range
 --   code_kind, kind_code == a code is the code of its kind, and a kind in range is the kind of its code
 --   within_some, within_is == a number that was read is declared, and a declared one is read
 --   filler_writes, entry_writes == the view of what a code writes

@@ -5,7 +5,7 @@
 --   refuse_got, then_got, or_got == what is known where something was read past a refusal, in two steps, from a code
 --   means_got, means_if, means_or, means_then, means_many == where each way to read is a refusal, P holds of it
 --   many_got           == as many as were asked for
---   many_whole, many_stopped == what `readMany` answers, the other way round
+--   many_whole, many_stopped == what `read_many` answers, the other way round
 --   many_each          == where each stands, and where they end
 --   stands_then        == bytes that stand at a place, and others behind them
 --   many_written, many_read == things that were read stand there as they are written, and back

@@ -1,7 +1,7 @@
 -- Laws that carry the writers of the listing to its text.
 --
 --   filler_text_lem     == a code that is a filler is written as that filler
---   row-in, header_in, few_atoms, variables_are == where the bytes lie, and how many there are
+--   row_in, header_in, few_atoms, variables_are == where the bytes lie, and how many there are
 --   row_text_lem, atom_constant, atom_row_lem == an atom
 --   atoms-left      == a loop over all atoms has come to its end
 --   atom_out, atom_there == an atom is left out, or written

@@ -23,7 +23,7 @@
 --   CanCount count share == so many nodes more can be counted
 --   Fresh state      == the state at the root
 --   Given s counts last == s is a readable table with these counts, and `last` is its last set number
---   outcome_of walked == the outcome that the walk's last state says; `outcomeAs`, by its end
+--   outcome_of walked == the outcome that the walk's last state says; `outcome_as`, by its end
 use Rattle.std.specs.Prelude.{◌≡◌, Bool, true, false, List, [], ℕ, ◌+◌, ◌^◌, ◌≤◌, ◌<◌, T, get_or, take}
 use Rattle.bounds.specs.Bounds as bounds
 use Rattle.el.specs.Table.{Table, atoms, role_order}

@@ -2,7 +2,7 @@
 --
 --   ended_off          == a walk that has ended does not go on
 --   keeps_same, keeps_on, keeps_sound == what is so of a node, from one to the next
---   leads_on, goes_on  == some nodes, and then a step; `goes-as`, where it is known where that goes
+--   leads_on, goes_on  == some nodes, and then a step; `goes_as`, where it is known where that goes
 --   set_within         == a set number put into a list
 --   keeps_sibling, keeps_up == a sibling, and the node above
 --   climbs_start, climbs_up, next_sibling, next_none == the loop of `next_node`

@@ -1,4 +1,4 @@
--- `order::is_constant` is the test `isConstant`, by the kind of the code.
+-- `order::is_constant` is the test `is_constant`, by the kind of the code.
 use mathlib.Core.Path.{sym, ◌∙◌}
 use Rattle.order.proofs.CodeLaws.{constant_kind}
 use Rattle.order.proofs.is_constant.Goals as goal

@@ -1,4 +1,4 @@
--- `order::left_set` meets its contract. The loop: what is joined so far is the union of the sets of the entries passed (`unionTo`). The measure is what is left of the entries.
+-- `order::left_set` meets its contract. The loop: what is joined so far is the union of the sets of the entries passed (`union_to`). The measure is what is left of the entries.
 use mathlib.Core.Path.{sym, ◌∙◌}
 use native.Mathlib.Omega.{arith}
 use Rattle.table.specs.LayoutLaws.{layout}

@@ -1,4 +1,4 @@
--- `order::left_set` meets its contract. The loop: what is joined so far is the union of the sets of the entries passed (`unionTo`). The measure is what is left of the entries.
+-- `order::left_set` meets its contract. The loop: what is joined so far is the union of the sets of the entries passed (`union_to`). The measure is what is left of the entries.
 use mathlib.Core.Path.{◌≡◌}
 use Prim.Native.Nat.{◌-◌, ◌≤◌}
 use Rattle.table.specs.Reading.{table_of}

@@ -1,20 +1,22 @@
-// Reading an input into a buffer.
+// Reading an input into a buffer, and writing a buffer to an output: to the end, or until a call fails.
 #![tactic(auto)]
 
-ghost use Rattle.std.specs.Prelude.{◌≡◌, ◌<◌, length, take, IfOk, IfSome};
+ghost use Rattle.std.specs.Prelude.{◌≡◌, ◌<◌, length, take, IfOk, OnOk, OnErr, IfSome, Some, []};
 ghost use Rattle.std.specs.Io.{ReadsAtMost};
-ghost use Rattle.std.specs.Io.KnownBytes.{Consumes, IsAtEnd};
+ghost use Rattle.std.specs.Io.KnownBytes.{Appends, Consumes, IsAtEnd};
+ghost use Rattle.input.specs.Part.{AppendsPart, ConsumesPart};
 
 use std::io;
-use std::io::Read;
+use std::io::{ErrorKind, Read, Write};
 
 // Reads until the buffer is full or the input ends, and returns how many bytes it put at the start of the buffer. On an empty buffer it makes no
-// call.
+// call. A call that fails ends it: what was read before stands at the start of the buffer, and the failed call read nothing.
 pub fn read_full<R: Read>(input: &mut R, buffer: &mut [u8]) -> io::Result<usize>
     ensures prefix_len { ReadsAtMost result buffer.new }
     ensures bytes { IfOk result (λ n. Consumes (R.remaining input.old) (R.remaining input.new) (take n buffer.new)) }
     ensures known { IfSome (R.remaining input.old) (λ xs. IfOk result (λ n. take n buffer.new ≡ take (length buffer.new) xs)) }
     ensures end { IfOk result (λ n. n < length buffer.new → IsAtEnd (R.remaining input.new)) }
+    ensures err { OnErr result (ConsumesPart (R.remaining input.old) (R.remaining input.new) buffer.new) }
 {
     let mut done = 0;
     while done < buffer.len() {
@@ -25,4 +27,56 @@ pub fn read_full<R: Read>(input: &mut R, buffer: &mut [u8]) -> io::Result<usize>
         done += n;
     }
     Ok(done)
+}
+
+// An output that takes no byte.
+#[derive(Clone, Copy)]
+struct Full;
+
+impl Write for Full {
+    ghost contents = { λ _. Some [] };
+
+    fn write(&mut self, _bytes: &[u8]) -> io::Result<usize> {
+        Ok(0)
+    }
+
+    fn flush(&mut self) -> io::Result<()> {
+        Ok(())
+    }
+}
+
+// The error that std's `write_all` gives where an output takes no byte.
+fn write_zero(bytes: &[u8]) -> io::Result<()>
+    ensures { OnOk result (length bytes.now ≡ 0) }
+{
+    let mut full = Full;
+    full.write_all(bytes)
+}
+
+// Writes all of the bytes, as std's `write_all` does: a call that a signal interrupts is made again. A call that fails ends it: what was written
+// before are the first of the bytes, and the failed call wrote nothing. The calls are counted, so that the loop is proved to end; no run makes so many.
+pub fn write_full<W: Write>(output: &mut W, bytes: &[u8]) -> io::Result<()>
+    ensures bytes { OnOk result (Appends (W.contents output.old) (W.contents output.new) bytes.now) }
+    ensures err { OnErr result (AppendsPart (W.contents output.old) (W.contents output.new) bytes.now) }
+{
+    let mut done = 0;
+    'writes: for _ in 0..u64::MAX {
+        if done >= bytes.len() {
+            return Ok(());
+        }
+        match output.write(&bytes[done..]) {
+            Ok(0) => return write_zero(&bytes[done..]),
+            Ok(n) => done += n,
+            Err(e) => {
+                if e.kind() != ErrorKind::Interrupted {
+                    return Err(e);
+                }
+            }
+        }
+    }
+    if done < bytes.len() {
+        let message = "gave up reading or writing after 2^64 tries";
+        return Err(io::Error::new(ErrorKind::TimedOut, message));
+    }
+    Ok(())
 }

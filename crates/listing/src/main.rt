@@ -1,9 +1,10 @@
 // Reads a table from standard input, solves it and writes the answer as text.
 #![tactic(auto)]
 
-ghost use Rattle.std.specs.Prelude.{◌≡◌, ◌≤◌, length, take, OnOk, IfSome};
+ghost use Rattle.std.specs.Prelude.{◌≡◌, ◌≤◌, length, take, OnOk, OnErr, IfSome};
 ghost use Rattle.std.specs.Io.KnownBytes.{Appends};
 ghost use Rattle.std.specs.Counts.{IsPrefixLen};
+ghost use Rattle.input.specs.Part.{AppendsPart};
 ghost use Rattle.text.specs.Room.{listing_room};
 ghost use Rattle.listing.specs.Report.{report_text};
 
@@ -35,15 +36,16 @@ fn report(table: &[u8], buffer: &mut [u8]) -> usize
     text::listing(table, a, &output, buffer)
 }
 
-// Reads a table, solves it and writes the answer as text.
+// Reads a table, solves it and writes the answer as text. A write that fails leaves a beginning of the text, a read that fails none of it.
 fn run<R: Read, W: Write>(input: &mut R, output: &mut W) -> io::Result<()>
-    ensures { OnOk result (IfSome (R.remaining input.old) (λ xs. Appends (W.contents output.old) (W.contents output.new) (report_text xs))) }
+    ensures text { OnOk result (IfSome (R.remaining input.old) (λ xs. Appends (W.contents output.old) (W.contents output.new) (report_text xs))) }
+    ensures err { OnErr result (IfSome (R.remaining input.old) (λ xs. AppendsPart (W.contents output.old) (W.contents output.new) (report_text xs))) }
 {
     let mut table = [0u8; MOST];
     let n = input::read_full(input, &mut table)?;
     let mut buffer = [0u8; text::LISTING_ROOM];
     let end = report(&table[..n], &mut buffer);
-    output.write_all(&buffer[..end])
+    input::write_full(output, &buffer[..end])
 }
 
 fn main(rt: HostRuntime) -> io::Result<()> {

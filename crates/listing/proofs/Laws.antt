@@ -2,19 +2,23 @@
 --
 --   report_is == the text of the solver's answer, written to a buffer that is long enough, is the report
 --   run_is    == what is written of an input's first bytes is the report of the whole input
+--   run_part, run_none == what a failed write leaves, and a failed read, is a beginning of the report of the whole input
+--   report_some == a report has a byte, and so where nothing is written not all of it is
 use mathlib.Core.Path.{◌≡◌, ap, ap₂, subst, ◌∙◌}
 use mathlib.Core.List.{List, [], ◌∷◌}
 use Prim.Native.Nat.{ℕ, ◌≤◌}
 use native.Mathlib.Omega.{arith}
-use lib.ListN.{length, take}
-use Rattle.std.specs.Prelude.{Option, Some, None, Result, Ok, Err, OnOk, IfSome}
+use lib.ListN.{length, take, length-append}
+use Rattle.std.specs.Prelude.{◌<◌, Option, Some, None, Result, Ok, Err, OnOk, OnErr, IfSome}
 use Rattle.std.specs.Counts.{IsPrefixLen}
 use Rattle.std.specs.Io.KnownBytes.{Appends}
+use Rattle.std.proofs.KnownBytes.{Appends-nil}
+use Rattle.input.specs.Part.{AppendsPart}
 use Rattle.answer.specs.declared.Handed.{Handed}
 use Rattle.answer.specs.Handed.{handed}
 use Rattle.text.specs.Append.{Appended}
 use Rattle.text.specs.AppendLaws.{appended_whole}
-use Rattle.text.specs.Listing.{listing_text}
+use Rattle.text.specs.Listing.{first_line, listing_text}
 use Rattle.text.specs.Room.{Numbers, listing_room}
 use Rattle.text.proofs.FitsLaws.{listing_fits}
 use Rattle.makrothel.specs.Solve.{answer}
@@ -34,3 +38,19 @@ pub run_is : {A E : Type 0} (r : Result A E) (input before after : Option (List 
 run_is (Err e) input before after front text room m k w h = tt
 run_is (Ok x) None before after front text room m k w h = tt
 run_is (Ok x) (Some xs) before after front text room m k w h = subst (Appends before after) (w ∙ ap report_text (k ∙ ap (λ n. take n xs) m) ∙ longer_input xs) h
+
+pub run_part : {A E : Type 0} (r : Result A E) (input before after : Option (List ℕ)) (front text : List ℕ) (room : ℕ) → room ≡ enough_length → IfSome input (λ xs. front ≡ take room xs) → text ≡ report_text front
+    → OnErr r (AppendsPart before after text) → OnErr r (IfSome input (λ xs. AppendsPart before after (report_text xs)))
+run_part (Ok x) input before after front text room m k w h = tt
+run_part (Err e) None before after front text room m k w h = tt
+run_part (Err e) (Some xs) before after front text room m k w h = subst (AppendsPart before after) (w ∙ ap report_text (k ∙ ap (λ n. take n xs) m) ∙ longer_input xs) h
+
+pub report_some : (s : List ℕ) → 0 < length (report_text s)
+unfolding report_text answer_text listing_text first_line
+report_some s = simp (length-append) (omega arith)
+
+-- where a read failed nothing was written
+pub run_none : {A E : Type 0} (r : Result A E) (input output : Option (List ℕ)) → OnErr r (IfSome input (λ xs. AppendsPart output output (report_text xs)))
+run_none (Ok x) input output = tt
+run_none (Err e) None output = tt
+run_none (Err e) (Some xs) output = (0, report_some xs, Appends-nil output)

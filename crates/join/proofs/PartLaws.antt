@@ -6,18 +6,25 @@
 --   part_long, part_other, part_solved == a window of the text
 --   window_less, window_in, window_end == window after window the text comes to its end
 --   window_next   == the windows make the text
+--   window_part   == and so does a part of one, behind those before it: what a failed write leaves is a beginning of the text
+--   on_err        == what holds in any case holds where a call failed
+--   text_some     == a text has a byte, and so where nothing is written not all of it is
 --   run_bytes, run_text == what is written of a file's first bytes is the text of the whole file
+--   run_part, run_none  == what a failed write leaves, and a failed read, is a beginning of it
 --   prepared_long, prepared_refused, prepared_solved == what comes of a text is prepared
 use mathlib.Core.Path.{◌≡◌, refl, sym, ap, ap₂, subst, ◌∙◌}
 use mathlib.Core.List.{List, [], ◌++◌, append-nil}
 use Prim.Native.Nat.{ℕ, zero, suc, ◌+◌, ◌*◌, ◌-◌, ◌≤◌, ◌<◌}
 use native.Mathlib.Omega.{arith}
-use lib.ListN.{length, take, drop, length-take, length-drop}
-use Rattle.std.proofs.lemmas.List.{take_all}
+use lib.ListN.{length, take, drop, length-append, length-take, length-drop}
+use Rattle.std.proofs.lemmas.List.{take_all, length-take-le}
 use Rattle.std.proofs.Math.Seq.{take-take, take-add}
-use Rattle.std.specs.Prelude.{true, Option, Some, None, Result, Ok, Err, IfOk, IfSome}
+use Rattle.std.specs.Prelude.{true, Option, Some, None, Result, Ok, Err, IfOk, OnErr, IfSome}
 use Rattle.std.specs.Counts.{IsPrefixLen}
 use Rattle.std.specs.Io.KnownBytes.{Appends}
+use Rattle.std.proofs.KnownBytes.{Appends-nil, Appends-trans}
+use Rattle.std.proofs.Math.Decide.{dec_le}
+use Rattle.input.specs.Part.{AppendsPart}
 use Rattle.bounds.specs.Bounds.{max_constants, max_variables, max_roles, set_bytes}
 use Rattle.answer.specs.declared.Handed.{Handed}
 use Rattle.answer.specs.Handed.{handed}
@@ -39,7 +46,7 @@ use Rattle.spell.specs.Spelling.{named_lines}
 use Rattle.spell.specs.Given.{Given}
 use Rattle.owl_span.specs.Span.{group_names, SpansDone}
 use Rattle.owl_span.specs.SpanLaws.{spans_of}
-use Rattle.join.specs.Join.{join_most, join_budget, join_table, join_output, long_text, numbers_line, join_as, file_text, join_text}
+use Rattle.join.specs.Join.{join_most, join_budget, join_table, join_output, long_text, numbers_line, join_as, joined, file_text, join_text}
 use Rattle.join.specs.Part.{Prepared, Solved}
 use Rattle.join.specs.declared.Written.{Written}
 use Rattle.join.specs.JoinLaws.{joined_refused, joined_solved, solved_facts, join_long, join_short, first_bytes}
@@ -163,6 +170,21 @@ module _ (from room n : ℕ) (text a : List ℕ) (h : IsPrefixLen n a) (e : take
       in
       ap (λ (l : List ℕ). take from text ++ l) same ∙ sym (take-add from n text)
 
+  -- what stands before a window, and the first bytes of it that were written
+  pub window_part : from ≤ length text → (before mid after : Option (List ℕ)) → Appends before mid (take from text) → AppendsPart mid after (take n a) → AppendsPart before after text
+  window_part inside before mid after p (k, l, q) =
+      let w = window_size in
+      let z : n ≤ room = w.0 in
+      let m : length (take n a) ≡ n = length-take-le n a (omega (arith, h.0)) in
+      let same : take k (take n a) ≡ take k (drop from text) = ap (take k) e ∙ take-take k room (drop from text) (omega arith) in
+      let grown : take from text ++ take k (take n a) ≡ take (from + k) text = ap (λ (l : List ℕ). take from text ++ l) same ∙ sym (take-add from k text) in
+      let left : n ≤ length text - from = w.1 in
+      (from + k, omega arith, subst (Appends before after) grown (Appends-trans before mid after (take from text) (take k (take n a)) p q))
+
+pub on_err : {A E P : Type 0} (r : Result A E) → P → OnErr r P
+on_err (Ok x) p = tt
+on_err (Err e) p = p
+
 ----------------------------------------------------------------------------------------------------
 -- The first bytes of a file
 
@@ -189,3 +211,27 @@ module _ (file : Option (List ℕ)) (front : List ℕ) (room : ℕ) (m : room �
       → IfOk r (λ w. w.whole ≡ true → IfSome file (λ xs. Appends before after (join_text xs)))
   run_text before after (Ok w) h = λ e. on_known (Appends before after) (h e)
   run_text before after (Err e) h = tt
+
+  pub run_part : {A E : Type 0} (r : Result A E) (before after : Option (List ℕ)) → OnErr r (AppendsPart before after (join_text front)) → OnErr r (IfSome file (λ xs. AppendsPart before after (join_text xs)))
+  run_part (Ok x) before after h = tt
+  run_part (Err e) before after h = on_known (AppendsPart before after) h
+
+-- a text has a byte
+line_some : (ns : List ℕ) → 0 < length (read_text ns)
+unfolding read_text
+line_some ns = simp (length-append) (omega arith)
+
+pub text_some : (s : List ℕ) → 0 < length (join_text s)
+unfolding long_text
+text_some s = go (dec_le (length s) join_most)
+  where
+    go : Dec (length s ≤ join_most) → 0 < length (join_text s)
+    go (yes l) =
+        let line : 0 < length (numbers_line (joined s).number (joined s).count (joined s).place) = line_some _ in
+        rw (join_short s _ l refl, length-append) (omega arith)
+    go (no l) = rw (join_long s (omega arith)) (omega arith)
+
+-- where a read failed nothing was written
+pub run_none : {A E : Type 0} (r : Result A E) (file to : Option (List ℕ)) → OnErr r (IfSome file (λ xs. AppendsPart to to (join_text xs)))
+run_none r None to = on_err r tt
+run_none r (Some xs) to = on_err r (0, text_some xs, Appends-nil to)

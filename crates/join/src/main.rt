@@ -3,9 +3,10 @@
 // The text is written in windows, one after the other: a fresh variable is spelt out where it stands, so the text may be longer than any buffer.
 #![tactic(auto)]
 
-ghost use Rattle.std.specs.Prelude.{◌≡◌, true, ◌*◌, ◌≤◌, length, take, IfOk, IfSome};
+ghost use Rattle.std.specs.Prelude.{◌≡◌, true, ◌*◌, ◌≤◌, length, take, IfOk, OnErr, IfSome};
 ghost use Rattle.std.specs.Io.KnownBytes.{Appends};
 ghost use Rattle.std.specs.Counts.{IsPrefixLen};
+ghost use Rattle.input.specs.Part.{AppendsPart};
 ghost use Rattle.bounds.specs.Bounds.{set_bytes, max_variables};
 ghost use Rattle.table.specs.Reading.{table_of};
 ghost use Rattle.output.specs.Written.{set_in};
@@ -115,7 +116,7 @@ struct Written {
     bytes: usize,
 }
 
-// Writes the text, window after window, until it ends or a write fails.
+// Writes the text, window after window, until it ends or a write fails. A write that fails leaves a beginning of the text.
 fn write_text<W: Write>(
     to: &mut W,
     file: &[u8],
@@ -128,6 +129,7 @@ fn write_text<W: Write>(
     requires { Prepared file.now table.now output.now number count place × (set_bytes * max_variables ≤ length output.now) }
     ensures bytes { IfOk result (λ w. w.whole ≡ true → w.bytes ≡ length (join_text file.now)) }
     ensures text { IfOk result (λ w. w.whole ≡ true → Appends (W.contents to.old) (W.contents to.new) (join_text file.now)) }
+    ensures err { OnErr result (AppendsPart (W.contents to.old) (W.contents to.new) (join_text file.now)) }
 {
     let mut buffer = [0u8; WINDOW];
     let mut from = 0;
@@ -139,7 +141,7 @@ fn write_text<W: Write>(
             });
         }
         let n = part(file, table, output, number, count, place, from, &mut buffer);
-        to.write_all(&buffer[..n])?;
+        input::write_full(to, &buffer[..n])?;
         from += n;
         if n < WINDOW {
             return Ok(Written {
@@ -154,6 +156,7 @@ fn write_text<W: Write>(
 fn write_joined<W: Write>(to: &mut W, file: &[u8]) -> io::Result<Written>
     ensures bytes { IfOk result (λ w. w.whole ≡ true → w.bytes ≡ length (join_text file.now)) }
     ensures text { IfOk result (λ w. w.whole ≡ true → Appends (W.contents to.old) (W.contents to.new) (join_text file.now)) }
+    ensures err { OnErr result (AppendsPart (W.contents to.old) (W.contents to.new) (join_text file.now)) }
 {
     let mut table = [0u8; TABLE];
     let mut output = [0u8; OUTPUT];
@@ -185,10 +188,11 @@ fn write_joined<W: Write>(to: &mut W, file: &[u8]) -> io::Result<Written>
     )
 }
 
-// Joins the file that is read, and writes its text.
+// Joins the file that is read, and writes its text. A read that fails leaves nothing of it.
 fn run<R: Read, W: Write>(from: &mut R, to: &mut W) -> io::Result<Written>
     ensures bytes { IfOk result (λ w. w.whole ≡ true → IfSome (R.remaining from.old) (λ xs. w.bytes ≡ length (join_text xs))) }
     ensures text { IfOk result (λ w. w.whole ≡ true → IfSome (R.remaining from.old) (λ xs. Appends (W.contents to.old) (W.contents to.new) (join_text xs))) }
+    ensures err { OnErr result (IfSome (R.remaining from.old) (λ xs. AppendsPart (W.contents to.old) (W.contents to.new) (join_text xs))) }
 {
     let mut file = [0u8; MOST + 1];
     let n = input::read_full(from, &mut file)?;

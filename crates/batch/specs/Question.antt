@@ -3,6 +3,7 @@
 --   most             == how long a table and an output may be
 --   line_room         == how long the lines that answer may be
 --   head_length, number_bytes, length_bytes == how many bytes stand before a table, and of them those of a number and of a length
+--   cut_line         == what is written where no question stands, or not a whole one
 --   question_of s     == the question that the nine bytes s begin
 --   is_question q     == there is such a kind, and the table is not too long
 --   read_numbers a    == what the reader answers, as numbers
@@ -34,6 +35,10 @@ number_bytes = 4
 
 abbrev pub length_bytes : ℕ
 length_bytes = 2
+
+-- `cut`
+abbrev pub cut_line : List ℕ
+cut_line = 0x63 ∷ 0x75 ∷ 0x74 ∷ 0x0A ∷ []
 
 -- one byte kind, then a number, the output's length (a larger one is taken as the most) and the table's length
 unfoldable pub question_of : List ℕ → Question

@@ -2,9 +2,11 @@
 // length of the output in two, the length of the table in two, little-endian, and the table.
 #![tactic(auto)]
 
-ghost use Rattle.std.specs.Prelude.{◌≡◌, ◌≤◌, min, length, take, replicate};
+ghost use Rattle.std.specs.Prelude.{◌≡◌, ◌≤◌, true, false, min, length, take, replicate, IfOk, OnErr};
+ghost use Rattle.std.specs.Io.KnownBytes.{Appends, Consumes, IsAtEnd};
 ghost use Rattle.std.specs.Counts.{IsPrefixLen};
-ghost use Rattle.batch.specs.Question.{most, head_length, line_room, question_of, is_question, read_reply, line_reply, solve_reply, reply};
+ghost use Rattle.input.specs.Part.{AppendsPart, ConsumesPart};
+ghost use Rattle.batch.specs.Question.{most, head_length, line_room, cut_line, question_of, is_question, read_reply, line_reply, solve_reply, reply};
 
 use bounds::Count;
 use std::io;
@@ -127,14 +129,21 @@ fn reply_to(q: Question, table: &[u8], line: &mut [u8]) -> usize
     solve_reply(table, q.number, &mut output[..room], line)
 }
 
-fn cut<W: Write>(output: &mut W) -> io::Result<bool> {
-    output.write_all(b"cut\n")?;
+// Says that the stream is cut short, and not to go on.
+fn cut<W: Write>(output: &mut W) -> io::Result<bool>
+    ensures ok { IfOk result (λ b. (b ≡ false) × Appends (W.contents output.old) (W.contents output.new) cut_line) }
+    ensures err { OnErr result (AppendsPart (W.contents output.old) (W.contents output.new) cut_line) }
+{
+    input::write_full(output, b"cut\n")?;
     Ok(false)
 }
 
 // Reads the first `size` bytes of the table. Says whether they were there.
 fn is_read<R: Read>(input: &mut R, table: &mut [u8], size: usize) -> io::Result<bool>
     requires { size ≤ length table.old }
+    ensures bytes { IfOk result (λ b. b ≡ true → Consumes (R.remaining input.old) (R.remaining input.new) (take size table.new)) }
+    ensures end { IfOk result (λ b. b ≡ false → ConsumesPart (R.remaining input.old) (R.remaining input.new) (take size table.new) × IsAtEnd (R.remaining input.new)) }
+    ensures err { OnErr result (ConsumesPart (R.remaining input.old) (R.remaining input.new) (take size table.new)) }
 {
     Ok(input::read_full(input, &mut table[..size])? == size)
 }

@@ -188,7 +188,7 @@ fn write_joined<W: Write>(to: &mut W, file: &[u8]) -> io::Result<Written>
     )
 }
 
-// Joins the file that is read, and writes its text. A read that fails leaves nothing of it.
+// Joins the file that is read, and writes its text. Where a read fails, none of it is written.
 fn run<R: Read, W: Write>(from: &mut R, to: &mut W) -> io::Result<Written>
     ensures bytes { IfOk result (λ w. w.whole ≡ true → IfSome (R.remaining from.old) (λ xs. w.bytes ≡ length (join_text xs))) }
     ensures text { IfOk result (λ w. w.whole ≡ true → IfSome (R.remaining from.old) (λ xs. Appends (W.contents to.old) (W.contents to.new) (join_text xs))) }

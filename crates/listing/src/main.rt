@@ -36,7 +36,7 @@ fn report(table: &[u8], buffer: &mut [u8]) -> usize
     text::listing(table, a, &output, buffer)
 }
 
-// Reads a table, solves it and writes the answer as text. A write that fails leaves a beginning of the text, a read that fails none of it.
+// Reads a table, solves it and writes the answer as text. A write that fails leaves a beginning of the text. Where a read fails, none of it is written.
 fn run<R: Read, W: Write>(input: &mut R, output: &mut W) -> io::Result<()>
     ensures text { OnOk result (IfSome (R.remaining input.old) (λ xs. Appends (W.contents output.old) (W.contents output.new) (report_text xs))) }
     ensures err { OnErr result (IfSome (R.remaining input.old) (λ xs. AppendsPart (W.contents output.old) (W.contents output.new) (report_text xs))) }

@@ -1,4 +1,4 @@
--- What a stream that fails leaves.
+-- What a read or a write that fails leaves, where the bytes are known.
 --
 --   AppendsPart old new bs == of the bytes bs a beginning was appended, and not all of them
 --   ConsumesPart old new bs == of the bytes bs a beginning was consumed, and not all of them

@@ -1,9 +1,9 @@
 // Reading an input into a buffer, and writing a buffer to an output: to the end, or until a call fails.
 #![tactic(auto)]
 
-ghost use Rattle.std.specs.Prelude.{◌≡◌, ◌<◌, length, take, IfOk, OnOk, OnErr, IfSome, Some, []};
-ghost use Rattle.std.specs.Io.{ReadsAtMost};
-ghost use Rattle.std.specs.Io.KnownBytes.{Appends, Consumes, IsAtEnd};
+ghost use Rattle.std.specs.Prelude.{◌≡◌, ◌<◌, length, take, IfOk, OnOk, OnErr, IfSome, Some, Ok, []};
+ghost use Rattle.std.specs.Io.{ReadsAtMost, WritesAtMost};
+ghost use Rattle.std.specs.Io.KnownBytes.{Appends, Consumes, IsAtEnd, WriteAppends};
 ghost use Rattle.input.specs.Part.{AppendsPart, ConsumesPart};
 
 use std::io;
@@ -36,7 +36,11 @@ struct Full;
 impl Write for Full {
     ghost contents = { λ _. Some [] };
 
-    fn write(&mut self, _bytes: &[u8]) -> io::Result<usize> {
+    fn write(&mut self, bytes: &[u8]) -> io::Result<usize>
+        ensures bound { WritesAtMost result bytes.now }
+        ensures bytes { WriteAppends (Some []) (Some []) result bytes.now }
+        ensures none { result ≡ Ok 0 }
+    {
         Ok(0)
     }
 

@@ -169,7 +169,7 @@ fn answer_one<R: Read, W: Write>(input: &mut R, output: &mut W) -> io::Result<bo
     }
     let mut line = [0u8; LINE];
     let end = reply_to(q, &table[..length], &mut line);
-    output.write_all(&line[..end])?;
+    input::write_full(output, &line[..end])?;
     Ok(true)
 }
 

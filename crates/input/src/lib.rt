@@ -29,58 +29,19 @@ pub fn read_full<R: Read>(input: &mut R, buffer: &mut [u8]) -> io::Result<usize>
     Ok(done)
 }
 
-// An output that takes no byte.
-#[derive(Clone, Copy)]
-struct Full;
-
-impl Write for Full {
-    ghost contents = { λ _. Some [] };
-
-    fn write(&mut self, bytes: &[u8]) -> io::Result<usize>
-        ensures bound { WritesAtMost result bytes.now }
-        ensures bytes { WriteAppends (Some []) (Some []) result bytes.now }
-        ensures none { result ≡ Ok 0 }
-    {
-        Ok(0)
-    }
-
-    fn flush(&mut self) -> io::Result<()> {
-        Ok(())
-    }
-}
-
-// The error that std's `write_all` gives where an output takes no byte.
-fn write_zero(bytes: &[u8]) -> io::Result<()>
-    ensures { OnOk result (length bytes.now ≡ 0) }
-{
-    let mut full = Full;
-    full.write_all(bytes)
-}
-
-// Writes all of the bytes, as std's `write_all` does: a call that a signal interrupts is made again. A call that fails ends it: what was written
-// before are the first of the bytes, and the failed call wrote nothing. The calls are counted, so that the loop is proved to end; no run makes so many.
+// Writes all of the bytes. A call that fails, or takes none of them, ends it: what was written before are the first of the bytes, and the failed call
+// wrote nothing. On no bytes it makes no call.
 pub fn write_full<W: Write>(output: &mut W, bytes: &[u8]) -> io::Result<()>
     ensures bytes { OnOk result (Appends (W.contents output.old) (W.contents output.new) bytes.now) }
     ensures err { OnErr result (AppendsPart (W.contents output.old) (W.contents output.new) bytes.now) }
 {
     let mut done = 0;
-    'writes: for _ in 0..u64::MAX {
-        if done >= bytes.len() {
-            return Ok(());
+    while done < bytes.len() {
+        let taken = output.write(&bytes[done..])?;
+        if taken == 0 {
+            return Err(io::Error::from(ErrorKind::WriteZero));
         }
-        match output.write(&bytes[done..]) {
-            Ok(0) => return write_zero(&bytes[done..]),
-            Ok(n) => done += n,
-            Err(e) => {
-                if e.kind() != ErrorKind::Interrupted {
-                    return Err(e);
-                }
-            }
-        }
-    }
-    if done < bytes.len() {
-        let message = "gave up reading or writing after 2^64 tries";
-        return Err(io::Error::new(ErrorKind::TimedOut, message));
+        done += taken;
     }
     Ok(())
 }

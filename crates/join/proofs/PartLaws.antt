@@ -7,10 +7,9 @@
 --   window_less, window_in, window_end == window after window the text comes to its end
 --   window_next   == the windows make the text
 --   window_part   == and so does a part of one, behind those before it: what a failed write leaves is a beginning of the text
---   on_err        == what holds in any case holds where a call failed
 --   text_some     == a text has a byte, and so where nothing is written not all of it is
 --   run_bytes, run_text == what is written of a file's first bytes is the text of the whole file
---   run_part, run_none  == what a failed write leaves, and a failed read, is a beginning of it
+--   run_part      == what a failed write leaves is a beginning of it
 --   prepared_long, prepared_refused, prepared_solved == what comes of a text is prepared
 use mathlib.Core.Path.{◌≡◌, refl, sym, ap, ap₂, subst, ◌∙◌}
 use mathlib.Core.List.{List, [], ◌++◌, append-nil}
@@ -19,12 +18,13 @@ use native.Mathlib.Omega.{arith}
 use lib.ListN.{length, take, drop, length-append, length-take, length-drop}
 use Rattle.std.proofs.lemmas.List.{take_all, length-take-le}
 use Rattle.std.proofs.Math.Seq.{take-take, take-add}
-use Rattle.std.specs.Prelude.{true, Option, Some, None, Result, Ok, Err, IfOk, OnErr, IfSome}
+use Rattle.std.specs.Prelude.{true, Option, Result, Ok, Err, IfOk, OnErr, IfSome}
 use Rattle.std.specs.Counts.{IsPrefixLen}
 use Rattle.std.specs.Io.KnownBytes.{Appends}
-use Rattle.std.proofs.KnownBytes.{Appends-nil, Appends-trans}
+use Rattle.std.proofs.KnownBytes.{Appends-trans}
 use Rattle.std.proofs.Math.Decide.{dec_le}
 use Rattle.input.specs.Part.{AppendsPart}
+use Rattle.input.proofs.PartLaws.{on_known}
 use Rattle.bounds.specs.Bounds.{max_constants, max_variables, max_roles, set_bytes}
 use Rattle.answer.specs.declared.Handed.{Handed}
 use Rattle.answer.specs.Handed.{handed}
@@ -181,40 +181,25 @@ module _ (from room n : ℕ) (text a : List ℕ) (h : IsPrefixLen n a) (e : take
       let left : n ≤ length text - from = w.1 in
       (from + k, omega arith, subst (Appends before after) grown (Appends-trans before mid after (take from text) (take k (take n a)) p q))
 
-pub on_err : {A E P : Type 0} (r : Result A E) → P → OnErr r P
-on_err (Ok x) p = tt
-on_err (Err e) p = p
-
 ----------------------------------------------------------------------------------------------------
 -- The first bytes of a file
 
 module _ (file : Option (List ℕ)) (front : List ℕ) (room : ℕ) (m : room ≡ join_most + 1) (known : IfSome file (λ xs. front ≡ take room xs)) where
-  text_known : IfSome file (λ xs. join_text front ≡ join_text xs)
-  text_known = go file known
-    where
-      go : (f : Option (List ℕ)) → IfSome f (λ xs. front ≡ take room xs) → IfSome f (λ xs. join_text front ≡ join_text xs)
-      go None k = tt
-      go (Some xs) k = ap join_text (k ∙ ap (λ (n : ℕ). take n xs) m) ∙ first_bytes xs
-
-  on_known : (P : List ℕ → Type 0) → P (join_text front) → IfSome file (λ xs. P (join_text xs))
-  on_known P h = go file text_known
-    where
-      go : (f : Option (List ℕ)) → IfSome f (λ xs. join_text front ≡ join_text xs) → IfSome f (λ xs. P (join_text xs))
-      go None k = tt
-      go (Some xs) k = subst P k h
+  on_text : (P : List ℕ → Type 0) → P (join_text front) → IfSome file (λ xs. P (join_text xs))
+  on_text = on_known join_text (join_most + 1) first_bytes file front room m known
 
   pub run_bytes : {E : Type 0} (r : Result Written E) → IfOk r (λ w. w.whole ≡ true → w.bytes ≡ length (join_text front)) → IfOk r (λ w. w.whole ≡ true → IfSome file (λ xs. w.bytes ≡ length (join_text xs)))
-  run_bytes (Ok w) h = λ e. on_known (λ t. w.bytes ≡ length t) (h e)
+  run_bytes (Ok w) h = λ e. on_text (λ t. w.bytes ≡ length t) (h e)
   run_bytes (Err e) h = tt
 
   pub run_text : {E : Type 0} (before after : Option (List ℕ)) (r : Result Written E) → IfOk r (λ w. w.whole ≡ true → Appends before after (join_text front))
       → IfOk r (λ w. w.whole ≡ true → IfSome file (λ xs. Appends before after (join_text xs)))
-  run_text before after (Ok w) h = λ e. on_known (Appends before after) (h e)
+  run_text before after (Ok w) h = λ e. on_text (Appends before after) (h e)
   run_text before after (Err e) h = tt
 
   pub run_part : {A E : Type 0} (r : Result A E) (before after : Option (List ℕ)) → OnErr r (AppendsPart before after (join_text front)) → OnErr r (IfSome file (λ xs. AppendsPart before after (join_text xs)))
   run_part (Ok x) before after h = tt
-  run_part (Err e) before after h = on_known (AppendsPart before after) h
+  run_part (Err e) before after h = on_text (AppendsPart before after) h
 
 -- a text has a byte
 line_some : (ns : List ℕ) → 0 < length (read_text ns)
@@ -230,8 +215,3 @@ text_some s = go (dec_le (length s) join_most)
         let line : 0 < length (numbers_line (joined s).number (joined s).count (joined s).place) = line_some _ in
         rw (join_short s _ l refl, length-append) (omega arith)
     go (no l) = rw (join_long s (omega arith)) (omega arith)
-
--- where a read failed nothing was written
-pub run_none : {A E : Type 0} (r : Result A E) (file to : Option (List ℕ)) → OnErr r (IfSome file (λ xs. AppendsPart to to (join_text xs)))
-run_none r None to = on_err r tt
-run_none r (Some xs) to = on_err r (0, text_some xs, Appends-nil to)

@@ -2,18 +2,18 @@
 --
 --   report_is == the text of the solver's answer, written to a buffer that is long enough, is the report
 --   run_is    == what is written of an input's first bytes is the report of the whole input
---   run_part, run_none == what a failed write leaves, and a failed read, is a beginning of the report of the whole input
+--   run_part  == what a failed write leaves is a beginning of it
 --   report_some == a report has a byte, and so where nothing is written not all of it is
-use mathlib.Core.Path.{◌≡◌, ap, ap₂, subst, ◌∙◌}
+use mathlib.Core.Path.{◌≡◌, ap₂, subst, ◌∙◌}
 use mathlib.Core.List.{List, [], ◌∷◌}
 use Prim.Native.Nat.{ℕ, ◌≤◌}
 use native.Mathlib.Omega.{arith}
 use lib.ListN.{length, take, length-append}
-use Rattle.std.specs.Prelude.{◌<◌, Option, Some, None, Result, Ok, Err, OnOk, OnErr, IfSome}
+use Rattle.std.specs.Prelude.{◌<◌, Option, Result, Ok, Err, OnOk, OnErr, IfSome}
 use Rattle.std.specs.Counts.{IsPrefixLen}
 use Rattle.std.specs.Io.KnownBytes.{Appends}
-use Rattle.std.proofs.KnownBytes.{Appends-nil}
 use Rattle.input.specs.Part.{AppendsPart}
+use Rattle.input.proofs.PartLaws.{on_known}
 use Rattle.answer.specs.declared.Handed.{Handed}
 use Rattle.answer.specs.Handed.{handed}
 use Rattle.text.specs.Append.{Appended}
@@ -33,24 +33,18 @@ report_is s a out e o n room h =
     let w = appended_whole h (omega (arith, listing_fits s a out n)) in
     ((w.0, w.1), w.2 ∙ ap₂ (listing_text s) e o)
 
-pub run_is : {A E : Type 0} (r : Result A E) (input before after : Option (List ℕ)) (front text : List ℕ) (room : ℕ) → room ≡ enough_length → IfSome input (λ xs. front ≡ take room xs) → text ≡ report_text front
-    → OnOk r (Appends before after text) → OnOk r (IfSome input (λ xs. Appends before after (report_text xs)))
-run_is (Err e) input before after front text room m k w h = tt
-run_is (Ok x) None before after front text room m k w h = tt
-run_is (Ok x) (Some xs) before after front text room m k w h = subst (Appends before after) (w ∙ ap report_text (k ∙ ap (λ n. take n xs) m) ∙ longer_input xs) h
+module _ (input : Option (List ℕ)) (front text : List ℕ) (room : ℕ) (m : room ≡ enough_length) (known : IfSome input (λ xs. front ≡ take room xs)) (w : text ≡ report_text front) where
+  on_report : (P : List ℕ → Type 0) → P text → IfSome input (λ xs. P (report_text xs))
+  on_report P h = on_known report_text enough_length longer_input input front room m known P (subst P w h)
 
-pub run_part : {A E : Type 0} (r : Result A E) (input before after : Option (List ℕ)) (front text : List ℕ) (room : ℕ) → room ≡ enough_length → IfSome input (λ xs. front ≡ take room xs) → text ≡ report_text front
-    → OnErr r (AppendsPart before after text) → OnErr r (IfSome input (λ xs. AppendsPart before after (report_text xs)))
-run_part (Ok x) input before after front text room m k w h = tt
-run_part (Err e) None before after front text room m k w h = tt
-run_part (Err e) (Some xs) before after front text room m k w h = subst (AppendsPart before after) (w ∙ ap report_text (k ∙ ap (λ n. take n xs) m) ∙ longer_input xs) h
+  pub run_is : {A E : Type 0} (r : Result A E) (before after : Option (List ℕ)) → OnOk r (Appends before after text) → OnOk r (IfSome input (λ xs. Appends before after (report_text xs)))
+  run_is (Err e) before after h = tt
+  run_is (Ok x) before after h = on_report (Appends before after) h
+
+  pub run_part : {A E : Type 0} (r : Result A E) (before after : Option (List ℕ)) → OnErr r (AppendsPart before after text) → OnErr r (IfSome input (λ xs. AppendsPart before after (report_text xs)))
+  run_part (Ok x) before after h = tt
+  run_part (Err e) before after h = on_report (AppendsPart before after) h
 
 pub report_some : (s : List ℕ) → 0 < length (report_text s)
 unfolding report_text answer_text listing_text first_line
 report_some s = simp (length-append) (omega arith)
-
--- where a read failed nothing was written
-pub run_none : {A E : Type 0} (r : Result A E) (input output : Option (List ℕ)) → OnErr r (IfSome input (λ xs. AppendsPart output output (report_text xs)))
-run_none (Ok x) input output = tt
-run_none (Err e) None output = tt
-run_none (Err e) (Some xs) output = (0, report_some xs, Appends-nil output)

@@ -3,7 +3,8 @@ use Rattle.std.proofs.Common.{rules, length, subst}
 use Rattle.std.specs.Io.KnownBytes.{Appends}
 use Rattle.std.proofs.KnownBytes.{Appends-trans}
 use Rattle.join.specs.Join.{join_text}
-use Rattle.join.proofs.PartLaws.{window_in, window_next, window_part, on_err}
+use Rattle.input.proofs.PartLaws.{on_err}
+use Rattle.join.proofs.PartLaws.{window_in, window_next, window_part}
 use Rattle.join.proofs.write_text.Goals as goal
 
 pub loop-from-preserved : goal.loop-from-preserved

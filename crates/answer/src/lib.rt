@@ -7,7 +7,7 @@ ghost use Rattle.answer.specs.Handed.{handed};
 use bounds::Count;
 
 // A case for each row of the table "Numbers handed back", in its order, with what its count or place is.
-#[derive(Clone, Copy)]
+#[derive(Clone, Copy, Debug, PartialEq, Eq)]
 pub enum Answer {
     Solved(Count),
     EndsEarly(usize),
@@ -21,66 +21,33 @@ pub enum Answer {
     Budget(Count),
 }
 
-#[derive(Clone, Copy)]
+#[derive(Clone, Copy, Debug, PartialEq, Eq)]
 pub struct Handed {
     pub number: u32,
     pub count: Count,
     pub place: usize,
 }
 
-pub fn hand(a: Answer) -> Handed
-    ensures { result ≡ handed a }
-{
-    match a {
-        Answer::Solved(n) => Handed {
-            number: 0,
-            count: n,
-            place: 0,
-        },
-        Answer::EndsEarly(at) => Handed {
-            number: 1,
-            count: 0,
-            place: at,
-        },
-        Answer::WrongMark => Handed {
-            number: 2,
-            count: 0,
-            place: 0,
-        },
-        Answer::WrongVersion => Handed {
-            number: 3,
-            count: 0,
-            place: 3,
-        },
-        Answer::OverBound(at) => Handed {
-            number: 4,
-            count: 0,
-            place: at,
-        },
-        Answer::NotAllowed(at) => Handed {
-            number: 5,
-            count: 0,
-            place: at,
-        },
-        Answer::BytesAfter(at) => Handed {
-            number: 6,
-            count: 0,
-            place: at,
-        },
-        Answer::OutputShort(room) => Handed {
-            number: 7,
-            count: 0,
-            place: room,
-        },
-        Answer::Nothing(n) => Handed {
-            number: 8,
-            count: n,
-            place: 0,
-        },
-        Answer::Budget(b) => Handed {
-            number: 9,
-            count: b,
-            place: 0,
-        },
+impl From<Answer> for Handed {
+    ghost from_gives = { λ a r. r ≡ handed a };
+
+    fn from(a: Answer) -> Handed {
+        let (number, count, place) = match a {
+            Answer::Solved(nodes) => (0, nodes, 0),
+            Answer::EndsEarly(at) => (1, 0, at),
+            Answer::WrongMark => (2, 0, 0),
+            Answer::WrongVersion => (3, 0, 3),
+            Answer::OverBound(at) => (4, 0, at),
+            Answer::NotAllowed(at) => (5, 0, at),
+            Answer::BytesAfter(at) => (6, 0, at),
+            Answer::OutputShort(room) => (7, 0, room),
+            Answer::Nothing(nodes) => (8, nodes, 0),
+            Answer::Budget(nodes) => (9, nodes, 0),
+        };
+        Handed {
+            number,
+            count,
+            place,
+        }
     }
 }

@@ -2,11 +2,11 @@
 // length of the output in two, the length of the table in two, little-endian, and the table.
 #![tactic(auto)]
 
-ghost use Rattle.std.specs.Prelude.{◌≡◌, ◌≤◌, true, false, min, length, take, replicate, IfOk, OnErr};
+ghost use Rattle.std.specs.Prelude.{◌≡◌, ◌≤◌, length, IfSome, OnOk, OnErr, Err};
 ghost use Rattle.std.specs.Io.KnownBytes.{Appends, Consumes, IsAtEnd};
-ghost use Rattle.std.specs.Counts.{IsPrefixLen};
 ghost use Rattle.input.specs.Part.{AppendsPart, ConsumesPart};
-ghost use Rattle.batch.specs.Question.{most, head_length, line_room, cut_line, question_of, is_question, read_reply, line_reply, solve_reply, reply};
+ghost use Rattle.batch.specs.declared.Stop.TheVariants.{Cut, Failed};
+ghost use Rattle.batch.specs.Question.{most, cut_line, room_of, question_of, read_reply, line_reply, solve_reply, reply};
 
 use bounds::Count;
 use std::io;
@@ -15,72 +15,76 @@ use std::io::{Read, Write};
 // How long a table and an output may be.
 const MOST: usize = 1024;
 
-// The bytes before a table, and of them those of a number and of a length.
+// The bytes before a table.
 const HEAD: usize = 9;
-
-const NUMBER: usize = 4;
-
-const LENGTH: usize = 2;
 
 // Room for a line.
 const LINE: usize = 4096;
 
-// A question, but for its table: `number` is the number of a line, or a budget, and `room` the length of the output.
+// What is asked of a table: the reader's answer, a line by its number, or the solver's answer under a budget and with room for an output.
+#[derive(Clone, Copy)]
+pub enum Ask {
+    Read,
+    Line(u32),
+    Solve { budget: Count, room: usize },
+}
+
+// A question, but for its table.
 #[derive(Clone, Copy)]
 pub struct Question {
-    pub kind: u8,
-    pub number: Count,
-    pub room: usize,
+    pub ask: Ask,
     pub length: usize,
 }
 
-fn least(a: usize, b: usize) -> usize
-    ensures { result ≡ min a b }
-{
-    if a < b { a } else { b }
+// Why no more questions are answered: the stream is at its end, no whole question stands there, or a call failed.
+#[derive(Drop)]
+pub enum Stop {
+    End,
+    Cut,
+    Failed(io::Error),
 }
 
-// Room for a table. The promise gives only the length, which lending it as a slice needs.
-fn zeros() -> [u8; MOST]
-    ensures { most ≡ length result }
-{
-    [0; MOST]
-}
+impl From<io::Error> for Stop {
+    ghost from_gives = { λ e why. why ≡ Failed e };
 
-// An output before the call.
-fn filled() -> [u8; MOST]
-    ensures { result ≡ replicate most 0xAA }
-{
-    [0xAA; MOST]
-}
-
-// What the nine bytes before a table say.
-fn question_of(head: &[u8]) -> Question
-    requires { head_length ≤ length head.now }
-    ensures { result ≡ question_of head.now }
-{
-    Question {
-        kind: head[0],
-        number: output::number_at(head, 1, NUMBER) as Count,
-        room: least(output::number_at(head, 5, LENGTH) as usize, MOST),
-        length: output::number_at(head, 7, LENGTH) as usize,
+    fn from(e: io::Error) -> Stop {
+        Stop::Failed(e)
     }
 }
 
-// Is there such a kind, and is the table not too long?
-fn is_question(q: Question) -> bool
-    ensures { result ≡ is_question q }
+// What the nine bytes before a table ask: nothing where there is no such kind, or the table is too long.
+#[tactic(auto, using(crate::proofs::Laws::number_of_two, crate::proofs::Laws::number_of_four))]
+fn question_of(head: &[u8; HEAD]) -> Option<Question>
+    ensures value { result ≡ question_of head.now }
+    ensures few { IfSome result (λ q. (q.length ≤ most) × (room_of q.ask ≤ most)) }
 {
-    1 <= q.kind && (q.kind <= 3 && q.length <= MOST)
+    let [kind, n0, n1, n2, n3, r0, r1, l0, l1] = *head;
+    let number = u32::from_le_bytes([n0, n1, n2, n3]);
+    let room = usize::from(u16::from_le_bytes([r0, r1])).min(MOST);
+    let length = usize::from(u16::from_le_bytes([l0, l1]));
+    let ask = match kind {
+        1 => Ask::Read,
+        2 => Ask::Line(number),
+        3 => Ask::Solve {
+            budget: number,
+            room,
+        },
+        _ => return None,
+    };
+    if length <= MOST {
+        Some(Question { ask, length })
+    } else {
+        None
+    }
 }
 
-fn read_reply(table: &[u8], line: &mut [u8]) -> usize
-    requires { line_room ≤ length line.old }
-    ensures prefix_len { IsPrefixLen result line.new }
-    ensures line_after { take result line.new ≡ read_reply table.now }
+#[tactic(auto, using(text::specs::AppendLaws::fitting_length))]
+fn read_reply<'a>(table: &[u8], line: &'a mut [u8; LINE]) -> &'a [u8]
+    ensures { result.now ≡ read_reply table.now }
 {
     let a = makrothel::read(table);
-    text::read_line(
+    // By `as`, since there is no `From<u32>` of a `usize`.
+    let end = text::read_line(
         &[
             a.number as usize,
             a.place,
@@ -92,94 +96,97 @@ fn read_reply(table: &[u8], line: &mut [u8]) -> usize
             a.inclusions as usize,
         ],
         line,
-    )
+    );
+    &line[..end]
 }
 
-fn line_reply(table: &[u8], n: u32, line: &mut [u8]) -> usize
-    requires { (length table.now ≤ most) × (line_room ≤ length line.old) }
-    ensures prefix_len { IsPrefixLen result line.new }
-    ensures line_after { take result line.new ≡ line_reply table.now n }
+#[tactic(auto, using(text::specs::AppendLaws::fitting_length))]
+fn line_reply<'a>(table: &[u8], n: u32, line: &'a mut [u8; LINE]) -> &'a [u8]
+    requires { length table.now ≤ most }
+    ensures { result.now ≡ line_reply table.now n }
 {
-    text::hex_line(makrothel::line(table, n), line)
+    let end = text::hex_line(makrothel::line(table, n), line);
+    &line[..end]
 }
 
-fn solve_reply(table: &[u8], budget: Count, output: &mut [u8], line: &mut [u8]) -> usize
-    requires { (length output.old ≤ most) × (line_room ≤ length line.old) }
-    ensures prefix_len { IsPrefixLen result line.new }
-    ensures line_after { take result line.new ≡ solve_reply table.now budget output.old }
+#[tactic(auto, using(text::specs::AppendLaws::fitting_length))]
+fn solve_reply<'a>(
+    table: &[u8],
+    budget: Count,
+    output: &mut [u8],
+    line: &'a mut [u8; LINE],
+) -> &'a [u8]
+    requires { length output.old ≤ most }
+    ensures { result.now ≡ solve_reply table.now budget output.old }
 {
     let a = makrothel::solve(table, budget, output);
-    text::solve_line(a, output, line)
+    let end = text::solve_line(a, output, line);
+    &line[..end]
 }
 
 // The answer to a question, as a line.
-fn reply_to(q: Question, table: &[u8], line: &mut [u8]) -> usize
-    requires { (q.room ≤ most) × (length table.now ≤ most) × (line_room ≤ length line.old) }
-    ensures prefix_len { IsPrefixLen result line.new }
-    ensures line_after { take result line.new ≡ reply q table.now }
+fn reply_to<'a>(ask: Ask, table: &[u8], line: &'a mut [u8; LINE]) -> &'a [u8]
+    requires { (room_of ask ≤ most) × (length table.now ≤ most) }
+    ensures { result.now ≡ reply ask table.now }
 {
-    if q.kind == 1 {
-        return read_reply(table, line);
+    match ask {
+        Ask::Read => read_reply(table, line),
+        Ask::Line(n) => line_reply(table, n, line),
+        Ask::Solve { budget, room } => {
+            let mut output = [0xAA; MOST];
+            solve_reply(table, budget, &mut output[..room], line)
+        }
     }
-    if q.kind == 2 {
-        return line_reply(table, q.number, line);
-    }
-    let room = q.room;
-    let mut output = filled();
-    solve_reply(table, q.number, &mut output[..room], line)
 }
 
-// Says that the stream is cut short, and not to go on.
-fn cut<W: Write>(output: &mut W) -> io::Result<bool>
-    ensures ok { IfOk result (λ b. (b ≡ false) × Appends (W.contents output.old) (W.contents output.new) cut_line) }
+// Says that the stream is cut short.
+fn cut<W: Write>(output: &mut W) -> io::Result<()>
+    ensures ok { OnOk result (Appends (W.contents output.old) (W.contents output.new) cut_line) }
     ensures err { OnErr result (AppendsPart (W.contents output.old) (W.contents output.new) cut_line) }
 {
-    input::write_full(output, b"cut\n")?;
-    Ok(false)
+    input::write_full(output, b"cut\n")
 }
 
-// Reads the first `size` bytes of the table. Says whether they were there.
-fn is_read<R: Read>(input: &mut R, table: &mut [u8], size: usize) -> io::Result<bool>
-    requires { size ≤ length table.old }
-    ensures bytes { IfOk result (λ b. b ≡ true → Consumes (R.remaining input.old) (R.remaining input.new) (take size table.new)) }
-    ensures end { IfOk result (λ b. b ≡ false → ConsumesPart (R.remaining input.old) (R.remaining input.new) (take size table.new) × IsAtEnd (R.remaining input.new)) }
-    ensures err { OnErr result (ConsumesPart (R.remaining input.old) (R.remaining input.new) (take size table.new)) }
+// Reads a whole table, or finds the stream cut short.
+fn read_table<R: Read>(input: &mut R, table: &mut [u8]) -> Result<(), Stop>
+    ensures ok { OnOk result (Consumes (R.remaining input.old) (R.remaining input.new) table.new) }
+    ensures end { result ≡ Err Cut → IsAtEnd (R.remaining input.new) }
+    ensures err { OnErr result (ConsumesPart (R.remaining input.old) (R.remaining input.new) table.new) }
 {
-    Ok(input::read_full(input, &mut table[..size])? == size)
+    if input::read_full(input, table)? < table.len() {
+        return Err(Stop::Cut);
+    }
+    Ok(())
 }
 
-// Reads a question and answers it. Says whether to go on.
-fn answer_one<R: Read, W: Write>(input: &mut R, output: &mut W) -> io::Result<bool> {
-    let mut head = [0u8; HEAD];
-    let got = input::read_full(input, &mut head)?;
-    if got == 0 {
-        return Ok(false);
+// Reads a question and answers it.
+fn answer_one<R: Read, W: Write>(input: &mut R, output: &mut W) -> Result<(), Stop> {
+    let mut head = [0; HEAD];
+    match input::read_full(input, &mut head)? {
+        0 => return Err(Stop::End),
+        HEAD => {}
+        _ => return Err(Stop::Cut),
     }
-    if got < HEAD {
-        return cut(output);
-    }
-    let q = question_of(&head);
-    if !is_question(q) {
-        return cut(output);
-    }
-    let length = q.length;
-    let mut table = zeros();
-    if !is_read(input, &mut table, length)? {
-        return cut(output);
-    }
-    let mut line = [0u8; LINE];
-    let end = reply_to(q, &table[..length], &mut line);
-    input::write_full(output, &line[..end])?;
-    Ok(true)
+    let q = question_of(&head).ok_or(Stop::Cut)?;
+    let mut table = [0; MOST];
+    let table = &mut table[..q.length];
+    read_table(input, table)?;
+    let mut line = [0; LINE];
+    input::write_full(output, reply_to(q.ask, table, &mut line))?;
+    Ok(())
 }
 
 // A proved loop has to end, and nothing says that a stream does: it ends after 2^64 - 1 questions, which no run reaches.
 fn main(rt: HostRuntime) -> io::Result<()> {
     let mut input = rt.stdin();
     let mut output = rt.stdout();
-    let mut left = u64::MAX;
-    while left > 0 && answer_one(&mut input, &mut output)? {
-        left -= 1;
+    for _ in 0..u64::MAX {
+        match answer_one(&mut input, &mut output) {
+            Ok(()) => {}
+            Err(Stop::End) => break,
+            Err(Stop::Cut) => return cut(&mut output),
+            Err(Stop::Failed(e)) => return Err(e),
+        }
     }
     Ok(())
 }

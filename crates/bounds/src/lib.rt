@@ -1,8 +1,9 @@
 // The bounds of a table, and the types that hold what they bound. No other crate writes these numbers.
 #![tactic(auto)]
 
-ghost use Rattle.std.specs.Prelude.{◌≡◌};
+ghost use Rattle.std.specs.Prelude.{◌≡◌, ◌<◌};
 ghost use Rattle.std.specs.Int.Count.{count_trailing_zeros};
+ghost use Rattle.el.specs.Test.{bit};
 ghost use Rattle.bounds.specs.Bounds.{set_bits};
 
 // A set of atoms: bit i says that atom i is in.
@@ -48,4 +49,12 @@ pub fn low_zeros(mask: SetNumber) -> usize
     ensures { result ≡ count_trailing_zeros set_bits mask }
 {
     u64::trailing_zeros(mask) as usize
+}
+
+// Is bit i of the mask set?
+pub fn has_bit(mask: SetNumber, i: usize) -> bool
+    requires { i < set_bits }
+    ensures { result ≡ bit i mask }
+{
+    (mask >> i) % 2 == 1
 }

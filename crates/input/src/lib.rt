@@ -1,4 +1,5 @@
-// Reading an input into a buffer, and writing a buffer to an output: to the end, or until a call fails.
+// Reading an input into a buffer, and writing a buffer to an output: to the end, or until a call fails. The library's `read_exact` and `write_all` say
+// little of what a call that fails leaves, so these are loops over one call; each goes by what the call took, and not by one.
 #![tactic(auto)]
 
 ghost use Rattle.std.specs.Prelude.{◌≡◌, ◌<◌, length, take, IfOk, OnOk, OnErr, IfSome, Some, Ok, []};

@@ -3,7 +3,7 @@
 --   few_constants, few_opens, few_roles == there is room for where the names stand
 --   names_given   == the writers are given what they ask for
 --   first_line_lem    == number, count and place
---   part_long, part_other, part_solved == a window of the text
+--   text_long, text_other, text_solved == the text of a file that is too long, of one that is not solved, and of a solved one
 --   window_less, window_in, window_end == window after window the text comes to its end
 --   window_next   == the windows make the text
 --   window_part   == and so does a part of one, behind those before it: what a failed write leaves is a beginning of the text
@@ -18,7 +18,7 @@ use native.Mathlib.Omega.{arith}
 use lib.ListN.{length, take, drop, length-append, length-take, length-drop}
 use Rattle.std.proofs.lemmas.List.{take_all, length-take-le}
 use Rattle.std.proofs.Math.Seq.{take-take, take-add}
-use Rattle.std.specs.Prelude.{true, Option, Result, Ok, Err, IfOk, OnErr, IfSome}
+use Rattle.std.specs.Prelude.{Option, Some, None, Result, Ok, Err, IfOk, OnErr, IfSome}
 use Rattle.std.specs.Counts.{IsPrefixLen}
 use Rattle.std.specs.Io.KnownBytes.{Appends}
 use Rattle.std.proofs.KnownBytes.{Appends-trans}
@@ -40,35 +40,35 @@ use Rattle.text.proofs.FitsLaws.{read_fits}
 use Rattle.makrothel.specs.Solve.{answer}
 use Rattle.owl.specs.Mention.{names_in}
 use Rattle.owl_answer.specs.Owl.{owl, OwlAt}
-use Rattle.spell.specs.Window.{Shown, window}
-use Rattle.spell.specs.WindowLaws.{shown_then, shown_window}
+use Rattle.spell.specs.Window.{window}
+use Rattle.spell.specs.declared.Span.{Span}
+use Rattle.owl_name.specs.Declarations.{group_names}
 use Rattle.spell.specs.Spelling.{named_lines}
 use Rattle.spell.specs.Given.{Given}
-use Rattle.owl_span.specs.Span.{group_names, SpansDone}
+use Rattle.owl_span.specs.Span.{SpansDone}
 use Rattle.owl_span.specs.SpanLaws.{spans_of}
 use Rattle.join.specs.Join.{join_most, join_budget, join_table, join_output, long_text, numbers_line, join_as, joined, file_text, join_text}
 use Rattle.join.specs.Part.{Prepared, Solved}
-use Rattle.join.specs.declared.Written.{Written}
 use Rattle.join.specs.JoinLaws.{joined_refused, joined_solved, solved_facts, join_long, join_short, first_bytes}
 
 ----------------------------------------------------------------------------------------------------
 -- Names
 
 module _ (s table : List ℕ) (f : Solved s table) where
-  pub few_constants : (spans : List ℕ) (r : ℕ) → SpansDone s 0 spans r → r ≤ max_constants
+  pub few_constants : (spans : List Span) (r : ℕ) → SpansDone s 0 spans r → r ≤ max_constants
   unfolding SpansDone group_names
   few_constants spans r d = omega (arith, d.0, f.constants_are, (layout table f.ok).constants, (layout table f.ok).few_constants)
 
-  pub few_opens : (spans : List ℕ) (r : ℕ) → SpansDone s 1 spans r → r ≤ max_variables
+  pub few_opens : (spans : List Span) (r : ℕ) → SpansDone s 1 spans r → r ≤ max_variables
   unfolding SpansDone group_names
   few_opens spans r d = omega (arith, d.0, f.opens_are, (layout table f.ok).variables, (layout table f.ok).few_variables)
 
-  pub few_roles : (spans : List ℕ) (r : ℕ) → SpansDone s 2 spans r → r ≤ max_roles
+  pub few_roles : (spans : List Span) (r : ℕ) → SpansDone s 2 spans r → r ≤ max_roles
   unfolding SpansDone group_names
   few_roles spans r d = omega (arith, d.0, f.roles_are, (layout table f.ok).roles, (layout table f.ok).few_roles)
 
-  pub names_given : (output cs os rs : List ℕ) (c o r : ℕ) → set_bytes * max_variables ≤ length output → SpansDone s 0 cs c → SpansDone s 1 os o → SpansDone s 2 rs r
-      → 2 * c ≤ length cs → 2 * o ≤ length os → 2 * r ≤ length rs → Given s (take (2 * c) cs) (take (2 * o) os) (take (2 * r) rs) table output
+  pub names_given : (output : List ℕ) (cs os rs : List Span) (c o r : ℕ) → set_bytes * max_variables ≤ length output → SpansDone s 0 cs c → SpansDone s 1 os o → SpansDone s 2 rs r
+      → c ≤ length cs → o ≤ length os → r ≤ length rs → Given s (take c cs) (take o os) (take r rs) table output
   unfolding group_names
   names_given output cs os rs c o r room dc do' dr hc ho hr = record {
     constants_at = spans_of s 0 cs c dc hc;
@@ -91,13 +91,9 @@ first_line_lem {b} ns h three room x =
 -- A window
 
 module _ (s : List ℕ) where
-  windowed : {b a : List ℕ} {from left r : ℕ} (t : List ℕ) → join_text s ≡ t → Shown b from 0 t a left r → IsPrefixLen r a × (take r a ≡ window from (length b) (join_text s))
-  windowed {b} {a} {from} t e x =
-      let w = shown_window x in
-      ((w.0, w.1), w.2 ∙ ap (window from (length b)) (sym e))
-
-  pub part_long : {b a : List ℕ} {from left r : ℕ} (t : List ℕ) → t ≡ long_text → join_most < length s → Shown b from 0 t a left r → IsPrefixLen r a × (take r a ≡ window from (length b) (join_text s))
-  part_long t e h x = windowed t (join_long s h ∙ sym e) x
+  -- a text of which a window stands at the start of a buffer
+  pub text_long : join_most < length s → long_text ≡ join_text s
+  text_long h = sym (join_long s h)
 
   module _ (table output : List ℕ) (n c p : ℕ) (prepared : Prepared s table output n c p) (h : length s ≤ join_most) where
     is_file : join_text s ≡ file_text s (join_as n c p table output)
@@ -108,14 +104,11 @@ module _ (s : List ℕ) where
     other_text zero t z = absurd (z refl)
     other_text (suc k) t z = refl
 
-    pub part_other : {b a : List ℕ} {from left r : ℕ} → (n ≡ 0 → ⊥) → Shown b from 0 (numbers_line n c p) a left r → IsPrefixLen r a × (take r a ≡ window from (length b) (join_text s))
-    part_other z x = windowed (numbers_line n c p) (is_file ∙ ap (λ (l : List ℕ). numbers_line n c p ++ l) (other_text n _ z) ∙ append-nil (numbers_line n c p)) x
+    pub text_other : (n ≡ 0 → ⊥) → numbers_line n c p ≡ join_text s
+    text_other z = sym (is_file ∙ ap (λ (l : List ℕ). numbers_line n c p ++ l) (other_text n _ z) ∙ append-nil (numbers_line n c p))
 
-    pub part_solved : {b m a : List ℕ} {from k q left r : ℕ} → n ≡ 0 → Shown b from 0 (numbers_line n c p) m k q → Shown m k q (named_lines (names_in s) (table_of table) (set_in output)) a left r
-        → IsPrefixLen r a × (take r a ≡ window from (length b) (join_text s))
-    part_solved z x y =
-        windowed (numbers_line n c p ++ named_lines (names_in s) (table_of table) (set_in output))
-        (is_file ∙ ap (λ (k : ℕ). numbers_line n c p ++ under_number k (named_lines (names_in s) (table_of table) (set_in output))) z) (shown_then x y)
+    pub text_solved : n ≡ 0 → numbers_line n c p ++ named_lines (names_in s) (table_of table) (set_in output) ≡ join_text s
+    text_solved z = sym (is_file ∙ ap (λ (k : ℕ). numbers_line n c p ++ under_number k (named_lines (names_in s) (table_of table) (set_in output))) z)
 
     pub solved_given : n ≡ 0 → Solved s table
     unfolding Prepared
@@ -188,13 +181,15 @@ module _ (file : Option (List ℕ)) (front : List ℕ) (room : ℕ) (m : room �
   on_text : (P : List ℕ → Type 0) → P (join_text front) → IfSome file (λ xs. P (join_text xs))
   on_text = on_known join_text (join_most + 1) first_bytes file front room m known
 
-  pub run_bytes : {E : Type 0} (r : Result Written E) → IfOk r (λ w. w.whole ≡ true → w.bytes ≡ length (join_text front)) → IfOk r (λ w. w.whole ≡ true → IfSome file (λ xs. w.bytes ≡ length (join_text xs)))
-  run_bytes (Ok w) h = λ e. on_text (λ t. w.bytes ≡ length t) (h e)
+  pub run_bytes : {E : Type 0} (r : Result (Option ℕ) E) → IfOk r (λ w. IfSome w (λ n. n ≡ length (join_text front))) → IfOk r (λ w. IfSome w (λ n. IfSome file (λ xs. n ≡ length (join_text xs))))
+  run_bytes (Ok (Some n)) h = on_text (λ t. n ≡ length t) h
+  run_bytes (Ok None) h = tt
   run_bytes (Err e) h = tt
 
-  pub run_text : {E : Type 0} (before after : Option (List ℕ)) (r : Result Written E) → IfOk r (λ w. w.whole ≡ true → Appends before after (join_text front))
-      → IfOk r (λ w. w.whole ≡ true → IfSome file (λ xs. Appends before after (join_text xs)))
-  run_text before after (Ok w) h = λ e. on_text (Appends before after) (h e)
+  pub run_text : {E : Type 0} (before after : Option (List ℕ)) (r : Result (Option ℕ) E) → IfOk r (λ w. IfSome w (λ n. Appends before after (join_text front)))
+      → IfOk r (λ w. IfSome w (λ n. IfSome file (λ xs. Appends before after (join_text xs))))
+  run_text before after (Ok (Some n)) h = on_text (Appends before after) h
+  run_text before after (Ok None) h = tt
   run_text before after (Err e) h = tt
 
   pub run_part : {A E : Type 0} (r : Result A E) (before after : Option (List ℕ)) → OnErr r (AppendsPart before after (join_text front)) → OnErr r (IfSome file (λ xs. AppendsPart before after (join_text xs)))

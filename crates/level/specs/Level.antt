@@ -7,8 +7,8 @@
 --   is_fresh mask a k n      == line n has a variable of the mask a, and only variables of the mask k
 --   Listed q n fresh few    == the first `few` numbers of `fresh` are those below n that pass q
 --   Levels t p m level      == the level is that of the children of the node p
---   LevelGiven fill mask counts sets == what a level is made of: masks of restrictions and lines, and the sets of a node that has a parent
---   LevelFor fill mask counts sets level == the level is that of the parent's children, whatever table within the bounds has these masks and counts
+--   LevelGiven lines sets    == what a level is made of besides the masks of restrictions: those of lines, and the sets of a node that has a parent
+--   LevelFor fill c lines sets level == the level is that of the parent's children, whatever table within the bounds has these masks and counts
 --   fails_at t set n         == line n does not hold under the sets
 --   fresh_fails t set fresh few == one of the lines listed does not
 use Rattle.std.specs.Prelude.{◌≡◌, Bool, true, false, ◌&&◌, not, List, [], ◌∷◌, ◌++◌, ℕ, zero, suc, ◌-◌, ◌≤◌, ◌<◌, T, eqb, length, get_or, take}
@@ -22,9 +22,8 @@ use Rattle.el.specs.Walk.{Node}
 use Rattle.el.specs.Below.{newly, freshly}
 use Rattle.table.specs.Layout.{line_at}
 use Rattle.node.specs.declared.Sets.{Sets}
-use Rattle.node.specs.declared.Counts.{Counts}
+use Rattle.node.specs.declared.Lines.{Lines}
 use Rattle.node.specs.Mask.{Fills, LineMasks}
-use Rattle.node.specs.Node.{DependsGiven}
 use Rattle.level.specs.declared.Level.{Level}
 
 abbrev pub Back : ℕ → ℕ → Type 0
@@ -57,16 +56,15 @@ pub record Levels (t : Table) (p : Node) (m : ℕ) (level : Level) : Type 0 wher
   pub leaving : Tells t p (Out (length p)) level.leaving
   pub lines : Listed (λ n. freshly t p (line_at t.lines n)) m level.fresh level.few
 
-pub record LevelGiven (fill mask : List ℕ) (counts : Counts) (sets : Sets) : Type 0 where
-  pub depends : DependsGiven fill counts.c counts.e sets.chosen
-  pub few_lines : counts.m ≤ max_lines
-  pub mask_room : length mask ≡ max_lines
+pub record LevelGiven (lines : Lines) (sets : Sets) : Type 0 where
+  pub few_variables : sets.chosen ≤ max_variables
+  pub few_lines : lines.count ≤ max_lines
   pub some : 0 < sets.chosen
 
-abbrev pub LevelFor : List ℕ → List ℕ → Counts → Sets → Level → Type 0
-LevelFor fill mask counts sets level =
-    (t : Table) → T (declared t) → t.variables ≤ max_variables → Fills t counts.c counts.e fill → LineMasks t counts.m mask → sets.chosen ≤ t.variables
-    → Levels t (take (sets.chosen - 1) sets.set) counts.m level
+abbrev pub LevelFor : List ℕ → ℕ → Lines → Sets → Level → Type 0
+LevelFor fill c lines sets level =
+    (t : Table) → T (declared t) → t.variables ≤ max_variables → Fills t c (length fill) fill → LineMasks t lines.count lines.mask → sets.chosen ≤ t.variables
+    → Levels t (take (sets.chosen - 1) sets.set) lines.count level
 
 unfoldable pub fails_at : Table → List ℕ → ℕ → Bool
 fails_at t set n = not (holds (role_order t) t.rows (induced t set) (line_at t.lines n))

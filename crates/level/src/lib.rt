@@ -8,18 +8,19 @@ ghost use Rattle.el.specs.Table.{role_order};
 ghost use Rattle.el.specs.Walk.{dead};
 ghost use Rattle.table.specs.Reading.{table_of};
 ghost use Rattle.level.specs.Level.{fresh_mask, is_fresh, Listed, LevelGiven, LevelFor, fresh_fails};
-ghost use Rattle.level.specs.Sweep.{sets_of, FreshGiven, ChildGiven, SweepGiven, Sweeps};
+ghost use Rattle.level.specs.Sweep.{own_of, FreshGiven, ChildGiven, SweepGiven, Sweeps};
 
-use bounds::{Count, Place, RowMask, SetNumber, VariableMask};
-use node::Counts;
+use bounds::{Count, MAX_LINES, SetNumber, VariableMask};
+use node::{Fillers, Lines, Marks, Prepared, Sets};
+use table::Readable;
 
 // The atoms that lead a newest variable back to itself, those that lead it to a variable that is not chosen, and the numbers of
-// the lines that the children have to test.
+// the lines that the children have to test: an array and how many there are, since memory is fixed.
 #[derive(Clone, Copy)]
 pub struct Level {
     pub turning: SetNumber,
     pub leaving: SetNumber,
-    pub fresh: [u8; bounds::MAX_LINES],
+    pub fresh: [u8; MAX_LINES],
     pub few: usize,
 }
 
@@ -27,119 +28,76 @@ pub struct Level {
 fn passes(own: VariableMask, about: VariableMask, near: VariableMask) -> bool
     ensures { result ≡ fresh_mask own about near }
 {
-    if (own & about) == 0 {
-        return false;
-    }
-    (own & near) == own
+    own & about != 0 && own & near == own
 }
 
-// The lines, m in number, that have a variable of `about` and only variables of `near`.
-fn collect(
-    mask: &[VariableMask],
-    m: usize,
-    about: VariableMask,
-    near: VariableMask,
-    turning: SetNumber,
-    leaving: SetNumber,
-) -> Level
-    requires { (m ≤ max_lines) × (length mask.now ≡ max_lines) }
-    ensures { (result.turning ≡ turning) × (result.leaving ≡ leaving) × Listed (is_fresh mask.now about near) m result.fresh result.few }
+// The level with these atoms, and the lines that have a variable marked in `back` and only variables of `near`.
+fn collect(lines: &Lines, back: Marks, near: VariableMask, leaving: SetNumber) -> Level
+    requires { lines.now.count ≤ max_lines }
+    ensures { (result.turning ≡ back.atoms) × (result.leaving ≡ leaving) × Listed (is_fresh lines.now.mask back.marked near) lines.now.count result.fresh result.few }
 {
-    let mut fresh: [u8; bounds::MAX_LINES] = [0; bounds::MAX_LINES];
+    let mut fresh = [0; MAX_LINES];
     let mut few = 0;
-    let mut n = 0;
-    while n < m {
-        if passes(mask[n], about, near) {
+    for n in 0..lines.count {
+        if passes(lines.mask[n], back.marked, near) {
             fresh[few] = n as u8;
             few += 1;
         }
-        n += 1;
     }
     Level {
-        turning,
+        turning: back.atoms,
         leaving,
         fresh,
         few,
     }
 }
 
-// The level of the node of the first k sets: that of its parent's children. One row of marks has the variables that lead to the newest one, another those that
+// The level of a node: that of its parent's children. One row of marks has the variables that lead to the newest one, another those that
 // lead to one after it, which is not chosen; the atoms whose filler is so marked are the two masks of the level.
-pub fn level_of(
-    fill: &[VariableMask],
-    mask: &[VariableMask],
-    counts: Counts,
-    set: &[SetNumber],
-    k: usize,
-) -> Level
-    requires { LevelGiven fill.now mask.now counts (sets_of set.now k) × (length set.now ≡ max_variables) }
-    ensures { LevelFor fill.now mask.now counts (sets_of set.now k) result }
+pub fn level_of(fillers: Fillers, lines: &Lines, sets: &Sets) -> Level
+    requires { LevelGiven lines.now sets.now }
+    ensures { LevelFor fillers.entry.masks.now fillers.entry.constants lines.now sets.now result }
 {
-    let c = counts.c;
-    let e = counts.e;
-    let y = k - 1;
+    let y = sets.chosen - 1;
+    let parent = &sets.set[..y];
     let newest = 1 << y;
-    let back = node::leading_to(fill, c, e, set, y, newest);
+    let back = fillers.leading_to(parent, newest);
     let later = node::others(node::first_mask(y + 1));
-    let out = node::leading_to(fill, c, e, set, y, later);
+    let out = fillers.leading_to(parent, later);
     let near = node::others(out.marked);
-    collect(mask, counts.m, back.marked, near, back.atoms, out.atoms)
+    collect(lines, back, near, out.atoms)
 }
 
 // One of the level's lines fails at the node.
-fn fresh_fails(
-    table: &[u8],
-    over: &[RowMask],
-    inner: &[u8],
-    start: &[Place],
-    fresh: &[u8],
-    few: usize,
-    counts: Counts,
-    set: &[SetNumber],
-) -> bool
-    requires { FreshGiven table.now over.now inner.now start.now fresh.now few counts set.now }
-    ensures { result ≡ fresh_fails (table_of table.now) set.now fresh.now few }
+fn fresh_fails(table: Readable, prepared: &Prepared, level: &Level, sets: &Sets) -> bool
+    requires { FreshGiven table.bytes.now prepared.now level.now sets.now }
+    ensures { result ≡ fresh_fails (table_of table.entry.bytes.now) sets.now.set level.now.fresh level.now.few }
 {
-    let c = counts.c;
-    let e = counts.e;
-    let v = counts.v;
-    let mut i = 0;
-    while i < few {
-        let n = table::wide(fresh[i]);
-        if !order::line_holds(table, over, inner, set, c, e, v, start[n] as usize) {
+    for n in &level.fresh[..level.few] {
+        let at = usize::from(prepared.lines.start[usize::from(*n)]);
+        if !order::line_holds(table, &prepared.rows, &sets.set, at) {
             return true;
         }
-        i += 1;
     }
     false
 }
 
-// Is the node of the first k sets, the child of a live one, dead? Cyclic through the newest variable, or else one of the level's
-// lines fails; but where the newest variable leads to one that is not chosen, no line is ready that was not ready before.
+// Is the node, the child of a live one with the newest set x, dead? Cyclic through the newest variable, or else one of the level's lines
+// fails; but where the newest variable leads to one that is not chosen, no line is ready that was not ready before. The sweep has x at hand;
+// read from the sets once more it costs time.
 fn child_is_dead(
-    table: &[u8],
-    over: &[RowMask],
-    inner: &[u8],
-    start: &[Place],
-    turning: SetNumber,
-    leaving: SetNumber,
-    fresh: &[u8],
-    few: usize,
-    counts: Counts,
-    set: &[SetNumber],
-    k: usize,
+    table: Readable,
+    prepared: &Prepared,
+    level: &Level,
+    sets: &Sets,
+    x: SetNumber,
 ) -> bool
-    requires { ChildGiven table.now over.now inner.now start.now turning leaving fresh.now few counts set.now k }
-    ensures { result ≡ dead (role_order (table_of table.now)) (table_of table.now) (take k set.now) }
+    requires { ChildGiven table.bytes.now prepared.now level.now sets.now × (x ≡ own_of sets.now) × (length sets.now.set ≡ max_variables) }
+    ensures { result ≡ dead (role_order (table_of table.entry.bytes.now)) (table_of table.entry.bytes.now) (take sets.now.chosen sets.now.set) }
 {
-    let x = set[k - 1];
-    if (x & turning) != 0 {
-        return true;
-    }
-    if (x & leaving) != 0 {
-        return false;
-    }
-    fresh_fails(table, over, inner, start, fresh, few, counts, set)
+    let turns = x & level.turning != 0;
+    let leaves = x & level.leaving != 0;
+    turns || !leaves && fresh_fails(table, prepared, level, sets)
 }
 
 // What halted a sweep over siblings: a live one, the last one passed, or as many examined as were allowed.
@@ -158,54 +116,40 @@ pub struct Swept {
     pub at: SetNumber,
 }
 
-// Examines the node of the first k sets and its siblings after it, at most `most` of them, up to the first that is live.
+// Examines the node and its siblings after it, at most `most` of them, up to the first that is live.
 pub fn sweep(
-    table: &[u8],
-    over: &[RowMask],
-    inner: &[u8],
-    start: &[Place],
-    level: Level,
-    counts: Counts,
-    first: &[SetNumber; bounds::MAX_VARIABLES],
-    k: usize,
+    table: Readable,
+    prepared: &Prepared,
+    level: &Level,
+    mut sets: Sets,
     last: SetNumber,
     most: Count,
 ) -> Swept
-    requires { SweepGiven table.now over.now inner.now start.now level counts (sets_of first.now k) last × (length first.now ≡ max_variables) }
-    ensures { Sweeps (table_of table.now) (sets_of first.now k) last most result }
+    requires { SweepGiven table.bytes.now prepared.now level.now sets last }
+    ensures { Sweeps (table_of table.entry.bytes.now) sets last most result }
 {
-    let y = k - 1;
-    let turning = level.turning;
-    let leaving = level.leaving;
-    let fresh = level.fresh;
-    let few = level.few;
-    let mut set = *first;
-    let mut passed = 0;
-    while passed < most {
-        let x = set[y];
-        passed += 1;
-        if !child_is_dead(
-            table, over, inner, start, turning, leaving, &fresh, few, counts, &set, k,
-        ) {
+    let y = sets.chosen - 1;
+    for passed in 0..most {
+        let x = sets.set[y];
+        if !child_is_dead(table, prepared, level, &sets, x) {
             return Swept {
                 end: Halt::Live,
-                passed,
+                passed: passed + 1,
                 at: x,
             };
         }
         if last <= x {
             return Swept {
                 end: Halt::Over,
-                passed,
+                passed: passed + 1,
                 at: x,
             };
         }
-        set[y] = x + 1;
+        sets.set[y] = x + 1;
     }
-    let at = set[y];
     Swept {
         end: Halt::Spent,
-        passed,
-        at,
+        passed: most,
+        at: sets.set[y],
     }
 }

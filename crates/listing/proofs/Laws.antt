@@ -10,7 +10,6 @@ use Prim.Native.Nat.{ℕ, ◌≤◌}
 use native.Mathlib.Omega.{arith}
 use lib.ListN.{length, take, length-append}
 use Rattle.std.specs.Prelude.{◌<◌, Option, Result, Ok, Err, OnOk, OnErr, IfSome}
-use Rattle.std.specs.Counts.{IsPrefixLen}
 use Rattle.std.specs.Io.KnownBytes.{Appends}
 use Rattle.input.specs.Part.{AppendsPart}
 use Rattle.input.proofs.PartLaws.{on_known}
@@ -27,11 +26,9 @@ use Rattle.listing.specs.ReportLaws.{longer_input}
 use Rattle.listing.specs.Report.{listing_budget, listing_output, answer_text, report_text}
 
 pub report_is : (s : List ℕ) (a : Handed) (out : List ℕ) {b after : List ℕ} {r : ℕ} → a ≡ handed (answer s listing_budget listing_output).says → out ≡ (answer s listing_budget listing_output).output
-    → Numbers (a.number ∷ a.count ∷ a.place ∷ []) → listing_room ≤ length b → Appended b 0 (listing_text s a out) after r → IsPrefixLen r after × (take r after ≡ report_text s)
+    → Numbers (a.number ∷ a.count ∷ a.place ∷ []) → listing_room ≤ length b → Appended b 0 (listing_text s a out) after r → take r after ≡ report_text s
 unfolding answer_text report_text
-report_is s a out e o n room h =
-    let w = appended_whole h (omega (arith, listing_fits s a out n)) in
-    ((w.0, w.1), w.2 ∙ ap₂ (listing_text s) e o)
+report_is s a out e o n room h = (appended_whole h (omega (arith, listing_fits s a out n))).2 ∙ ap₂ (listing_text s) e o
 
 module _ (input : Option (List ℕ)) (front text : List ℕ) (room : ℕ) (m : room ≡ enough_length) (known : IfSome input (λ xs. front ≡ take room xs)) (w : text ≡ report_text front) where
   on_report : (P : List ℕ → Type 0) → P text → IfSome input (λ xs. P (report_text xs))

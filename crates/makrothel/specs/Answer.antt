@@ -4,9 +4,10 @@
 --   read_answer r == the reader's number, place and counts for a reading
 --   has_line s n  == are the bytes s readable, and is there a line n?
 --   line_span s n == the byte where line n of the bytes s begins, and its length; zeros where there is none; `span_if`, by whether it is there
+--   SpanIs s n o  == o is that span where there is a line n, and none where there is none
 --   line_part s n == the bytes there
 --   BeginsIn r t k == the part r of the caller's table t begins at the byte k of t
-use Rattle.std.specs.Prelude.{◌≡◌, Bool, true, false, ◌&&◌, List, ℕ, ◌+◌, ltb, take, drop}
+use Rattle.std.specs.Prelude.{◌≡◌, Bool, true, false, ◌&&◌, Option, MatchOption, List, ℕ, ◌+◌, ltb, take, drop}
 use Rattle.std.specs.Borrow.{Bor}
 use Rattle.answer.specs.declared.Answer.{Answer}
 use Rattle.answer.specs.declared.Answer.TheVariants.{Solved}
@@ -39,6 +40,10 @@ span_if s n false = record { start = 0; length = 0 }
 
 unfoldable pub line_span : List ℕ → ℕ → Span
 line_span s n = span_if s n (has_line s n)
+
+-- a span where there is a line n, and none where there is none
+unfoldable pub SpanIs : List ℕ → ℕ → Option Span → Type 0
+SpanIs s n o = MatchOption o (has_line s n ≡ false) (λ x. (has_line s n ≡ true) × (x ≡ line_span s n))
 
 -- "returns that line as a part of the caller's own table"; "An unreadable table or a line number of m or more gives an empty part."
 unfoldable pub line_part : List ℕ → ℕ → List ℕ

@@ -19,12 +19,12 @@ pub extern "C" fn makrothel_read(table: &[u8], numbers: &mut [u64; 7]) -> u32
     let a = makrothel::read(table);
     *numbers = [
         a.place as u64,
-        a.constants as u64,
-        a.roles as u64,
-        a.variables as u64,
-        a.restrictions as u64,
-        a.lines as u64,
-        a.inclusions as u64,
+        u64::from(a.constants),
+        u64::from(a.roles),
+        u64::from(a.variables),
+        u64::from(a.restrictions),
+        u64::from(a.lines),
+        u64::from(a.inclusions),
     ];
     a.number
 }
@@ -36,15 +36,16 @@ pub extern "C" fn makrothel_line(table: &[u8], n: u32, span: &mut [u64; 2]) -> u
     ensures span { span.new ≡ start_and_length (line_span table.now n) }
     ensures part { spanned span.new table.now ≡ line_part table.now n }
 {
-    let line = makrothel::line_span(table, n);
-    if line.length == 0 {
-        *span = [0, 0];
-        return 0;
+    match makrothel::line_span(table, n) {
+        Some(line) => {
+            *span = [line.start as u64, line.length as u64];
+            1
+        }
+        None => {
+            *span = [0, 0];
+            0
+        }
     }
-    let start = line.start;
-    let length = line.length;
-    *span = [start as u64, length as u64];
-    1
 }
 
 // `solve`: returns the number; the count and the place are in the lent array, and the output is as `solve` leaves it.
@@ -60,6 +61,6 @@ pub extern "C" fn makrothel_solve(
     ensures output { out.new ≡ (answer table.now budget out.old).output }
 {
     let a = makrothel::solve(table, budget, out);
-    *numbers = [a.count as u64, a.place as u64];
+    *numbers = [u64::from(a.count), a.place as u64];
     a.number
 }

@@ -1,6 +1,6 @@
 -- What the codes of a readable table say of variables.
 --
---   named_none, named_one == the mask of the variable that a code names, by its kind
+--   named_none, named_other, named_one == the mask of the variable that a code names, by its kind
 --   filler_says, filler_names == so of the code of a filler: it is the filler's variable, and has a bit
 --   entry_says, entry_row == the variables of an entry: those that its code names, or of the restriction that it names
 --   entry_fits         == they have bits, and the restriction has a place
@@ -17,7 +17,7 @@ use Rattle.el.specs.Assignment.{is_variable}
 use Rattle.el.specs.Walk.{filler_variables, entry_variables}
 use Rattle.bounds.specs.Bounds.{mask_bits, masks}
 use Rattle.table.specs.declared.Kind.{Kind}
-use Rattle.table.specs.declared.Kind.TheVariants.{Restriction, Variable}
+use Rattle.table.specs.declared.Kind.TheVariants.{Top, Constant, Restriction, Variable, Other}
 use Rattle.table.specs.Code.{kind_of, filler_of_kind, filler_of, entry_of_kind, entry_of, WritesFiller, fills_top, fills_constant, fills_variable, WritesEntry, enters_constant, enters_restriction, enters_variable}
 use Rattle.table.specs.CodeLaws.{within_some, filler_writes, entry_writes}
 use Rattle.node.specs.Mask.{Masks, is_among, is_named, Names, MaskFits, FillMask}
@@ -26,6 +26,16 @@ use Rattle.node.specs.MaskLaws.{mask_one}
 module _ (b : ℕ) where
   pub named_none : (k : Kind) → kind_of b ≡ k → ((y : ℕ) → is_named k y ≡ false) → Masks (is_named (kind_of b)) 0
   named_none k e f y = bit_none y ∙ sym (ap (λ (z : Kind). is_named z y) e ∙ f y)
+
+  pub named_other : ((k : ℕ) → kind_of b ≡ Variable k → ⊥) → Masks (is_named (kind_of b)) 0
+  named_other f = go (kind_of b) refl
+    where
+      go : (k : Kind) → kind_of b ≡ k → Masks (is_named (kind_of b)) 0
+      go Top e = named_none Top e (λ y. refl)
+      go (Constant k) e = named_none (Constant k) e (λ y. refl)
+      go (Restriction k) e = named_none (Restriction k) e (λ y. refl)
+      go (Variable k) e = absurd (f k e)
+      go Other e = named_none Other e (λ y. refl)
 
   pub named_one : (k w : ℕ) → kind_of b ≡ Variable k → w ≡ k → w < mask_bits → Masks (is_named (kind_of b)) (1 * 2 ^ w % masks)
   named_one k w e q h y = mask_one mask_bits w h y ∙ ap (λ (i : ℕ). eqb i y) q ∙ ap (λ (z : Kind). is_named z y) (sym e)

@@ -1,11 +1,12 @@
 -- Laws of direct dependences: the masks of the restrictions say what depends on what in a table.
 --
+--   fills_front    == the masks of the restrictions alone, as `Fillers` has them
 --   depends_filled == by a set number
 --   depends_node   == by the sets of a node
 --   chosen_depends == what depends on any is chosen
 use Rattle.std.specs.Prelude.{◌≡◌, List, ℕ, ◌+◌, ◌≤◌, ◌<◌, T, ltb, length, take}
 use Rattle.std.proofs.Math.Path.{sym, ap, ap₂}
-use Rattle.std.proofs.Common.{◌∙◌, arith, lt-ltb, le-ltb, ltb→lt, length-take, get_or-take}
+use Rattle.std.proofs.Common.{◌∙◌, arith, lt-ltb, le-ltb, ltb→lt, length-take, get_or-take, length-take-le, subst}
 use Rattle.std.proofs.Math.Bool.{◌&&◌}
 use Rattle.std.proofs.Math.Decide.{dec_lt}
 use Rattle.std.proofs.Math.ListN.{get_or}
@@ -14,8 +15,17 @@ use Rattle.el.specs.TestLaws.{and_left, any_below_same}
 use Rattle.el.specs.Table.{Table, row_at}
 use Rattle.el.specs.Assignment.{Assignment, set_of, is_variable, depends}
 use Rattle.el.proofs.NodeLaws.{depends_unchosen}
-use Rattle.node.specs.Mask.{Fills}
+use Rattle.node.specs.Mask.{FillMask, Fills}
 use Rattle.node.specs.Marks.{depends_by, depends_in}
+
+pub fills_front : {t : Table} {c e : ℕ} {fill masks : List ℕ} {constants : ℕ} → Fills t c e fill → e ≤ length fill → masks ≡ take e fill → constants ≡ c → Fills t constants (length masks) masks
+fills_front {t} {c} {e} {fill} {masks} {constants} fills room is same =
+    let many : length (take e fill) ≡ e = length-take-le e fill room in
+    subst (λ (k : ℕ). Fills t k (length masks) masks) (sym same) (subst (λ (m : List ℕ). Fills t c (length m) m) (sym is) (record {
+      constants = fills.constants;
+      restrictions = many ∙ fills.restrictions;
+      masks = record { at = λ i h. subst (FillMask t.rows i) (sym (get_or-take e fill i 0 (omega arith))) (fills.masks.at i (omega arith)) };
+    }))
 
 module _ (t : Table) (c e : ℕ) (fill : List ℕ) (fills : Fills t c e fill) where
   pub depends_filled : (a : Assignment) (x y : ℕ) → depends_by fill c (set_of a x) e y ≡ depends t a x y

@@ -5,7 +5,7 @@
 --   eqb_comm        == equal, either way round
 --   masks_none, mask_one, masks_or == the mask 0, the mask of one number, and a mask joined to another
 --   mask_first, mask_some == the mask of the numbers below k, and that the shift before it has something to take 1 from
---   mask_others     == the mask of those that are not in a mask
+--   mask_others, mask_without == the mask of those that are not in a mask
 --   bit_added, bit_kept == a bit that is set where a test says so
 --   pick_start, pick_more, pick_skip, pick_whole == the numbers below a bound that pass a test, one by one
 --   ready_by        == every number of a list is in a mask
@@ -20,9 +20,10 @@ use Rattle.std.proofs.Math.Bool.{and-true, and-false, or-false}
 use mathlib.Core.List.{List, [], ◌∷◌}
 use Rattle.std.proofs.Math.Decide.{ℕ_discrete, dec_lt}
 use Rattle.std.proofs.lemmas.Bool.{eqb-false}
+use Rattle.std.proofs.lemmas.Nat.{and_comm, and_assoc, and-not}
 use Rattle.std.proofs.Math.Dec.{T, not_T, eqb_refl}
 use Rattle.std.proofs.Math.Arith.{bin_ind}
-use Rattle.std.specs.Int.Bits.{bit_or, bit_and, bit_xor}
+use Rattle.std.specs.Int.Bits.{bit_or, bit_and, bit_xor, and_self, xor_add_and}
 use Rattle.el.specs.Test.{any_of, every_of, bit}
 use Rattle.el.specs.TestLaws.{is_true, true_is, false_not, same_test, or_left, or_right, or_cases, and_make, and_left, and_right, any_of_hit, any_of_found, bit_none, bit_first, bit_next}
 use Rattle.bounds.specs.Bounds.{mask_bits, masks}
@@ -104,6 +105,13 @@ mask_first w k h y = ap (λ (n : ℕ). bit y (n - 1)) (power_in w k h) ∙ bit_f
 
 pub mask_others : (p : ℕ → Bool) (all m : ℕ) → Masks p all → Masks (λ y. p y && not (bit y m)) (bit_xor all (bit_and all m))
 mask_others p all m is y = bit_missing y m all ∙ ap (λ (b : Bool). b && not (bit y m)) (is y)
+
+-- the same, as the machine finds them
+pub mask_without : (p : ℕ → Bool) (all m : ℕ) → all < masks → m < masks → Masks p all → Masks (λ y. p y && not (bit y m)) (bit_and all (masks - 1 - m))
+mask_without p all m h k is =
+    let both : bit_and all (bit_and all m) ≡ bit_and all m = sym (and_assoc m all all) ∙ ap (λ (x : ℕ). bit_and x m) (and_self all) in
+    let same : bit_and all (masks - 1 - m) ≡ bit_xor all (bit_and all m) = omega (arith, and-not mask_bits m all k h, and_comm all (masks - 1 - m), and_comm m all, xor_add_and all (bit_and all m)) in
+    λ y. ap (bit y) same ∙ mask_others p all m is y
 
 pub masks_or : (p q : ℕ → Bool) (a b : ℕ) → Masks p a → Masks q b → Masks (λ y. p y || q y) (bit_or a b)
 masks_or p q a b f g y = bit_of_or y a b ∙ ap₂ ◌||◌ (f y) (g y)

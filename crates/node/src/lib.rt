@@ -1,6 +1,6 @@
 // A node of the walk, and whether it is dead.
 //
-// Given are a readable table, its counts, what is prepared of it once, and the sets of the variables chosen so far. Variables are bits of
+// Given are a readable table, what is prepared of it once, and the sets of the variables chosen so far. Variables are bits of
 // a mask: one row of marks. The atoms whose filler is marked tell which variables depend on a marked one: those whose sets have such an
 // atom. Marking these too, again and again, marks all that lead to the first marks. Striking out, again and again, what depends on
 // nothing still standing leaves something exactly if the node is cyclic, and so dead. Else a variable is settled if it and all it leads to
@@ -19,25 +19,27 @@ ghost use Rattle.table.specs.Reading.{reading, is_readable, table_of, header_of}
 ghost use Rattle.table.specs.Layout.{LineBegins, AtLine};
 ghost use Rattle.node.specs.Mask.{Masks, Picks, is_among, is_named, Names, MaskFits, FillMasks, Fills, LineMask, LineMasks, LineStarts};
 ghost use Rattle.node.specs.Marks.{depends_in, AtomsInto, has_one, LeadsInto};
-ghost use Rattle.node.specs.Node.{node_of, CountsOf, Prepares, NodeGiven, first_failing, DependsGiven};
+ghost use Rattle.node.specs.Node.{node_of, Prepares, NodeGiven, first_failing};
 
-use bounds::{Place, RowMask, SetNumber, VariableMask};
-use table::Kind;
-
-// The counts of a table that the test of a node needs: constants, restrictions, variables and lines.
-#[derive(Clone, Copy)]
-pub struct Counts {
-    pub c: usize,
-    pub e: usize,
-    pub v: usize,
-    pub m: usize,
-}
+use bounds::{MAX_LINES, MAX_RESTRICTIONS, MAX_VARIABLES, Place, SetNumber, VariableMask};
+use order::Rows;
+use table::{Kind, Readable};
 
 // One set number for each variable, and how many variables are chosen.
 #[derive(Clone, Copy)]
 pub struct Sets {
-    pub set: [SetNumber; bounds::MAX_VARIABLES],
+    pub set: [SetNumber; MAX_VARIABLES],
     pub chosen: usize,
+}
+
+impl Sets {
+    // The sets of the chosen variables.
+    pub fn node(&self) -> &[SetNumber]
+        requires { self.now.chosen ≤ max_variables }
+        ensures { result.now ≡ node_of self.now }
+    {
+        &self.set[..self.chosen]
+    }
 }
 
 // A row of marks on the variables, and the atoms whose filler is marked.
@@ -47,35 +49,30 @@ pub struct Marks {
     pub atoms: SetNumber,
 }
 
-// The mask of the variables of each line, and the byte where it begins.
+// How many lines there are, the mask of the variables of each, and the byte where it begins. Two arrays and not one of pairs: a mask and a
+// place have six bytes, a pair of them eight.
 #[derive(Clone, Copy)]
-struct Lines {
-    mask: [VariableMask; bounds::MAX_LINES],
-    start: [Place; bounds::MAX_LINES],
+pub struct Lines {
+    pub count: usize,
+    pub mask: [VariableMask; MAX_LINES],
+    pub start: [Place; MAX_LINES],
 }
 
-// What is the same at every node: the rows for the line test, the mask of the variable inside each restriction, the mask of the
-// variables of each line, and the byte where each line begins.
+// What is the same at every node of a table: its rows for the line test, the mask of the variable inside each restriction, and its lines.
+// That they are the table's (`Prepares`) is no fact of the type: `level::sweep` asks for parts of it alone.
 #[derive(Clone, Copy)]
 pub struct Prepared {
-    pub over: [RowMask; bounds::MAX_RESTRICTIONS],
-    pub inner: [u8; bounds::MAX_RESTRICTIONS],
-    pub fill: [VariableMask; bounds::MAX_RESTRICTIONS],
-    pub mask: [VariableMask; bounds::MAX_LINES],
-    pub start: [Place; bounds::MAX_LINES],
+    pub rows: Rows,
+    pub fill: [VariableMask; MAX_RESTRICTIONS],
+    pub lines: Lines,
 }
 
-// The counts of a readable table.
-pub fn counts_of(table: &[u8]) -> Counts
-    requires { T (is_readable (reading table.now)) }
-    ensures { CountsOf table.now result }
-{
-    let header = table::header_of(table);
-    let c = table::wide(header.c);
-    let e = table::wide(header.e);
-    let v = table::wide(header.v);
-    let m = table::wide(header.m);
-    Counts { c, e, v, m }
+// What dependences are read from: the mask of the variable inside each restriction, and how many constants come before their atoms.
+#[derive(Clone, Copy)]
+pub struct Fillers<'a> {
+    pub masks: &'a [VariableMask],
+    pub constants: usize,
+    ghost few_atoms: { constants + length masks.now ≤ max_atoms },
 }
 
 // The mask of the variable that a code names; 0 where it names none.
@@ -84,26 +81,9 @@ fn variable_mask(code: u8) -> VariableMask
     ensures { Masks (is_named (kind_of code)) result }
 {
     match table::kind_of(code) {
-        Kind::Top => 0,
-        Kind::Constant(_) => 0,
-        Kind::Restriction(_) => 0,
-        Kind::Variable(x) => 1 << table::wide(x),
-        Kind::Other => 0,
+        Kind::Variable(x) => 1 << x,
+        _ => 0,
     }
-}
-
-// The mask of the variable inside each restriction.
-fn fill_masks(table: &[u8], e: usize) -> [VariableMask; bounds::MAX_RESTRICTIONS]
-    requires { T (is_readable (reading table.now)) × (e ≡ (header_of table.now).e) }
-    ensures { FillMasks (table_of table.now).rows e result }
-{
-    let mut fill: [VariableMask; bounds::MAX_RESTRICTIONS] = [0; bounds::MAX_RESTRICTIONS];
-    let mut k = 0;
-    while k < e {
-        fill[k] = variable_mask(table::filler_of(table, k));
-        k += 1;
-    }
-    fill
 }
 
 // The mask of the first k variables.
@@ -118,105 +98,85 @@ pub fn first_mask(k: usize) -> VariableMask
 pub fn others(mask: VariableMask) -> VariableMask
     ensures { Masks (λ x. ltb x max_variables && not (bit x mask)) result }
 {
-    let all = first_mask(bounds::MAX_VARIABLES);
-    all ^ (all & mask)
+    first_mask(MAX_VARIABLES) & !mask
 }
 
-// The atoms whose filler is a variable of the mask.
-fn atoms_of(fill: &[VariableMask], c: usize, e: usize, mask: VariableMask) -> SetNumber
-    requires { (c + e ≤ max_atoms) × (e ≤ length fill.now) }
-    ensures { AtomsInto fill.now c e mask result }
-{
-    let mut atoms = 0;
-    let mut k = 0;
-    while k < e {
-        if (fill[k] & mask) != 0 {
-            atoms = atoms | (1 << (c + k));
-        }
-        k += 1;
-    }
-    atoms
-}
-
-// The mask of those of the first n variables whose sets have one of the atoms.
-fn having(set: &[SetNumber], n: usize, atoms: SetNumber) -> VariableMask
-    requires { (n ≤ max_variables) × (n ≤ length set.now) }
-    ensures { Picks (has_one set.now atoms) n result }
+// The mask of the chosen variables whose sets have one of the atoms. `Fillers::atoms_into` is the same loop the other way round, over
+// small masks into a large one: a function for both would take a closure, a shift and a cast, and be no shorter.
+fn having(chosen: &[SetNumber], atoms: SetNumber) -> VariableMask
+    requires { length chosen.now ≤ max_variables }
+    ensures { Picks (has_one chosen.now atoms) (length chosen.now) result }
 {
     let mut mask = 0;
-    let mut x = 0;
-    while x < n {
-        if (set[x] & atoms) != 0 {
-            mask = mask | (1 << x);
+    for (x, own) in chosen.iter().enumerate() {
+        if own & atoms != 0 {
+            mask |= 1 << x;
         }
-        x += 1;
     }
     mask
 }
 
-// Marks the variables of the mask, and all that lead to one of them over the first n variables' sets. A round marks those that depend
-// on a marked one; where it marks no more, or no atom leads to a marked one, all are marked, and n rounds are enough.
-pub fn leading_to(
-    fill: &[VariableMask],
-    c: usize,
-    e: usize,
-    set: &[SetNumber],
-    n: usize,
-    mask: VariableMask,
-) -> Marks
-    requires { DependsGiven fill.now c e n × (n ≤ length set.now) }
-    ensures { LeadsInto (depends_in fill.now c e set.now n) mask result.marked × AtomsInto fill.now c e result.marked result.atoms }
-{
-    let mut marked = mask;
-    let mut atoms = atoms_of(fill, c, e, mask);
-    let mut round = 0;
-    while round < n && atoms != 0 {
-        let more = marked | having(set, n, atoms);
-        if more == marked {
-            return Marks { marked, atoms };
+impl Fillers<'_> {
+    // The atoms whose filler is a variable of the mask.
+    fn atoms_into(self, mask: VariableMask) -> SetNumber
+        ensures { AtomsInto self.entry.masks.now self.entry.constants (length self.entry.masks.now) mask result }
+    {
+        let mut atoms = 0;
+        for (k, own) in self.masks.iter().enumerate() {
+            if own & mask != 0 {
+                atoms |= 1 << (self.constants + k);
+            }
         }
-        marked = more;
-        atoms = atoms_of(fill, c, e, more);
-        round += 1;
+        atoms
     }
-    Marks { marked, atoms }
-}
 
-// Does no variable depend on itself over one or more steps? All v variables stand at first. A round strikes out each that depends on
-// nothing still standing; a variable that is not chosen depends on nothing. The node is acyclic exactly if nothing stands at the end.
-pub fn is_acyclic(fill: &[VariableMask], c: usize, e: usize, v: usize, sets: Sets) -> bool
-    requires { DependsGiven fill.now c e v × (sets.chosen ≤ v) }
-    ensures { (t : Table) → Fills t c e fill.now → sets.chosen ≤ t.variables → result ≡ acyclic t (node_of sets) }
-{
-    let set = sets.set;
-    let n = sets.chosen;
-    let mut standing = first_mask(v);
-    let mut round = 0;
-    while round < v {
-        let left = standing & having(&set, n, atoms_of(fill, c, e, standing));
-        if left == standing {
-            return standing == 0;
+    // Marks the variables of the mask, and all that lead to one of them over the chosen variables' sets. A round marks those that depend
+    // on a marked one; where it marks no more, or no atom leads to a marked one, all are marked, and a round for each set is enough.
+    pub fn leading_to(self, chosen: &[SetNumber], mask: VariableMask) -> Marks
+        requires { length chosen.now ≤ max_variables }
+        ensures { LeadsInto (depends_in self.entry.masks.now self.entry.constants (length self.entry.masks.now) chosen.now (length chosen.now)) mask result.marked × AtomsInto self.entry.masks.now self.entry.constants (length self.entry.masks.now) result.marked result.atoms }
+    {
+        let mut marked = mask;
+        let mut atoms = self.atoms_into(mask);
+        for _ in chosen {
+            if atoms == 0 {
+                break;
+            }
+            let more = marked | having(chosen, atoms);
+            if more == marked {
+                break;
+            }
+            marked = more;
+            atoms = self.atoms_into(more);
         }
-        standing = left;
-        round += 1;
+        Marks { marked, atoms }
     }
-    standing == 0
-}
 
-// The mask of the settled variables at the node of the first n sets: those chosen that lead to none that is not.
-fn settled_mask(
-    fill: &[VariableMask],
-    c: usize,
-    e: usize,
-    set: &[SetNumber],
-    n: usize,
-) -> VariableMask
-    requires { DependsGiven fill.now c e n × (n ≤ length set.now) }
-    ensures { (t : Table) → T (declared t) → t.variables ≤ max_variables → Fills t c e fill.now → Masks (settled t (take n set.now)) result }
-{
-    let open = others(first_mask(n));
-    let out = leading_to(fill, c, e, set, n, open);
-    others(out.marked)
+    // Does no variable depend on itself over one or more steps? All v variables stand at first. A round strikes out each that depends on
+    // nothing still standing; a variable that is not chosen depends on nothing. The node is acyclic exactly if nothing stands at the end.
+    pub fn is_acyclic(self, v: usize, chosen: &[SetNumber]) -> bool
+        requires { (v ≤ max_variables) × (length chosen.now ≤ v) }
+        ensures { (t : Table) → Fills t self.entry.constants (length self.entry.masks.now) self.entry.masks.now → length chosen.now ≤ t.variables → result ≡ acyclic t chosen.now }
+    {
+        let mut standing = first_mask(v);
+        for _ in 0..v {
+            let left = standing & having(chosen, self.atoms_into(standing));
+            if left == standing {
+                break;
+            }
+            standing = left;
+        }
+        standing == 0
+    }
+
+    // The mask of the settled variables: those chosen that lead to none that is not.
+    fn settled_mask(self, chosen: &[SetNumber]) -> VariableMask
+        requires { length chosen.now ≤ max_variables }
+        ensures { (t : Table) → T (declared t) → t.variables ≤ max_variables → Fills t self.entry.constants (length self.entry.masks.now) self.entry.masks.now → Masks (settled t chosen.now) result }
+    {
+        let open = others(first_mask(chosen.len()));
+        others(self.leading_to(chosen, open).marked)
+    }
 }
 
 // The mask of the variables of the entry that a code writes, its filler included.
@@ -224,108 +184,99 @@ fn entry_mask(fill: &[VariableMask], code: u8) -> VariableMask
     requires { MaskFits fill.now code }
     ensures { (rows : List Row) (c e v : ℕ) (x : Entry) → FillMasks rows e fill.now → entry_of c e v code ≡ some x → Masks (is_among (entry_variables rows x)) result }
 {
-    let kind = table::kind_of(code);
-    if let Kind::Restriction(k) = kind {
-        return fill[table::wide(k)];
+    match table::kind_of(code) {
+        Kind::Restriction(k) => fill[usize::from(k)],
+        _ => variable_mask(code),
     }
-    variable_mask(code)
+}
+
+// The mask of the variable inside each restriction.
+fn fill_masks(table: Readable) -> [VariableMask; MAX_RESTRICTIONS]
+    ensures { FillMasks (table_of table.entry.bytes.now).rows (header_of table.entry.bytes.now).e result }
+{
+    let mut fill: [VariableMask; MAX_RESTRICTIONS] = [0; MAX_RESTRICTIONS];
+    for k in 0..usize::from(table.header().e) {
+        fill[k] = variable_mask(table.filler_of(k));
+    }
+    fill
 }
 
 // The mask of the variables of the line that begins at the byte `at`, fillers included.
-fn line_mask(table: &[u8], fill: &[VariableMask], at: usize) -> VariableMask
-    requires filled { T (is_readable (reading table.now)) × FillMasks (table_of table.now).rows (header_of table.now).e fill.now }
-    requires room { (length fill.now ≡ max_restrictions) × LineBegins table.now at }
-    ensures { AtLine table.now at (λ l. LineMask (table_of table.now).rows l result) }
+fn line_mask(table: Readable, fill: &[VariableMask; MAX_RESTRICTIONS], at: usize) -> VariableMask
+    requires { FillMasks (table_of table.bytes.now).rows (header_of table.bytes.now).e fill.now × LineBegins table.bytes.now at }
+    ensures { AtLine table.entry.bytes.now at (λ l. LineMask (table_of table.entry.bytes.now).rows l result) }
 {
-    let p = table::left_count(table, at);
     let mut mask = 0;
-    let mut i = 0;
-    while i < p {
-        mask = mask | entry_mask(fill, table::left_code(table, at, i));
-        i += 1;
+    for i in 0..table.left_count(at) {
+        mask |= entry_mask(fill, table.left_code(at, i));
     }
-    mask | entry_mask(fill, table::right_code(table, at))
+    mask | entry_mask(fill, table.right_code(at))
 }
 
-// The mask of each line's variables, and the byte where it begins.
-fn lines_of(table: &[u8], fill: &[VariableMask], m: usize) -> Lines
-    requires filled { T (is_readable (reading table.now)) × FillMasks (table_of table.now).rows (header_of table.now).e fill.now }
-    requires room { (length fill.now ≡ max_restrictions) × (m ≡ (header_of table.now).m) }
-    ensures { LineMasks (table_of table.now) m result.mask × LineStarts table.now m result.start }
+// How many lines there are, the mask of the variables of each, and the byte where it begins.
+fn lines_of(table: Readable, fill: &[VariableMask; MAX_RESTRICTIONS]) -> Lines
+    requires { FillMasks (table_of table.bytes.now).rows (header_of table.bytes.now).e fill.now }
+    ensures { (result.count ≡ (header_of table.entry.bytes.now).m) × LineMasks (table_of table.entry.bytes.now) result.count result.mask × LineStarts table.entry.bytes.now result.count result.start }
 {
-    let mut mask: [VariableMask; bounds::MAX_LINES] = [0; bounds::MAX_LINES];
-    let mut start: [Place; bounds::MAX_LINES] = [0; bounds::MAX_LINES];
-    let mut at = table::line_start(table, 0);
-    let mut n = 0;
-    while n < m {
-        mask[n] = line_mask(table, fill, at);
-        start[n] = at as Place;
-        at = at + table::left_count(table, at) + 2;
-        n += 1;
+    let mut lines = Lines {
+        count: usize::from(table.header().m),
+        mask: [0; MAX_LINES],
+        start: [0; MAX_LINES],
+    };
+    let mut at = table.line_start(0);
+    for n in 0..lines.count {
+        lines.mask[n] = line_mask(table, fill, at);
+        lines.start[n] = at as Place;
+        at += table.left_count(at) + 2;
     }
-    Lines { mask, start }
+    lines
 }
 
 // What is prepared once for every node of a table.
-pub fn prepare(table: &[u8], counts: Counts) -> Prepared
-    requires { T (is_readable (reading table.now)) × CountsOf table.now counts }
-    ensures { Prepares table.now result }
+pub fn prepare(table: Readable) -> Prepared
+    ensures { Prepares table.entry.bytes.now result }
 {
-    let e = counts.e;
-    let m = counts.m;
-    let rows = order::rows_of(table, e);
-    let over = rows.over;
-    let inner = rows.inner;
-    let fill = fill_masks(table, e);
-    let lines = lines_of(table, &fill, m);
-    let mask = lines.mask;
-    let start = lines.start;
-    Prepared {
-        over,
-        inner,
-        fill,
-        mask,
-        start,
+    let rows = order::rows_of(table);
+    let fill = fill_masks(table);
+    let lines = lines_of(table, &fill);
+    Prepared { rows, fill, lines }
+}
+
+impl Prepared {
+    // What dependences are read from.
+    pub fn fillers(&self) -> Fillers<'_>
+        requires { self.now.rows.c + self.now.rows.e ≤ max_atoms × self.now.rows.e ≤ max_restrictions }
+        ensures { (result.masks.now ≡ take self.now.rows.e self.now.fill) × (result.constants ≡ self.now.rows.c) }
+    {
+        Fillers {
+            masks: &self.fill[..self.rows.e],
+            constants: self.rows.c,
+        }
     }
 }
 
 // The number of the first line that is ready and fails at an acyclic node; the count of lines where none does.
-pub fn first_failing(table: &[u8], counts: Counts, prepared: Prepared, sets: Sets) -> usize
-    requires { NodeGiven table.now counts sets × Prepares table.now prepared × T (acyclic (table_of table.now) (node_of sets)) }
-    ensures { result ≡ first_failing (table_of table.now) (node_of sets) }
+pub fn first_failing(table: Readable, prepared: &Prepared, sets: &Sets) -> usize
+    requires { NodeGiven table.bytes.now sets.now × Prepares table.bytes.now prepared.now × T (acyclic (table_of table.bytes.now) (node_of sets.now)) }
+    ensures { result ≡ first_failing (table_of table.entry.bytes.now) (node_of sets.now) }
 {
-    let c = counts.c;
-    let e = counts.e;
-    let v = counts.v;
-    let m = counts.m;
-    let over = prepared.over;
-    let inner = prepared.inner;
-    let fill = prepared.fill;
-    let mask = prepared.mask;
-    let start = prepared.start;
-    let set = sets.set;
-    let settled = settled_mask(&fill, c, e, &set, sets.chosen);
-    let mut n = 0;
-    while n < m {
-        let own = mask[n];
-        if (own & settled) == own {
-            if !order::line_holds(table, &over, &inner, &set, c, e, v, start[n] as usize) {
-                return n;
-            }
+    let settled = prepared.fillers().settled_mask(sets.node());
+    let lines = &prepared.lines;
+    for n in 0..lines.count {
+        let own = lines.mask[n];
+        let at = usize::from(lines.start[n]);
+        if own & settled == own && !order::line_holds(table, &prepared.rows, &sets.set, at) {
+            return n;
         }
-        n += 1;
     }
-    m
+    lines.count
 }
 
 // Whether the node is dead: its chosen sets are cyclic, or else a ready line fails.
-pub fn is_dead(table: &[u8], counts: Counts, prepared: Prepared, sets: Sets) -> bool
-    requires { NodeGiven table.now counts sets × Prepares table.now prepared }
-    ensures { result ≡ dead (role_order (table_of table.now)) (table_of table.now) (node_of sets) }
+pub fn is_dead(table: Readable, prepared: &Prepared, sets: &Sets) -> bool
+    requires { NodeGiven table.bytes.now sets.now × Prepares table.bytes.now prepared.now }
+    ensures { result ≡ dead (role_order (table_of table.entry.bytes.now)) (table_of table.entry.bytes.now) (node_of sets.now) }
 {
-    let fill = prepared.fill;
-    if !is_acyclic(&fill, counts.c, counts.e, counts.v, sets) {
-        return true;
-    }
-    first_failing(table, counts, prepared, sets) < counts.m
+    !prepared.fillers().is_acyclic(prepared.rows.v, sets.node())
+        || first_failing(table, prepared, sets) < prepared.lines.count
 }

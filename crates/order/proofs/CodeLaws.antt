@@ -1,15 +1,17 @@
 -- What the codes of fillers and entries say to the line test, with plain arguments.
 --
 --   filler_read, entry_read             == what a declared code says
+--   fits_fills, fills_fits              == what is declared within the bounds, and the test of it
 --   filler_more, entry_more             == what is declared where there are fewer is declared where there are more
 --   filler_.., entry_.., .._fits        == the number that a code holds is in range
 --   set_.., entry_..                    == the set of a filler's, an entry's code, by its kind
 --   constant_kind, flat_kind            == the flat test, by the kinds of the codes
-use mathlib.Core.Path.{◌≡◌, sym, ap, ap₂, ◌∙◌}
-use mathlib.Core.Option.{some}
+use mathlib.Core.Path.{◌≡◌, refl, sym, ap, ap₂, ◌∙◌}
+use mathlib.Core.Option.{Option, none, some}
+use mathlib.Core.Bool.{true, false}
 use Prim.Native.Nat.{ℕ, ◌+◌, ◌*◌, ◌%◌, ◌^◌, ◌≤◌, ◌<◌}
 use native.Mathlib.Omega.{arith}
-use lib.Dec.{lt→ltb}
+use lib.Dec.{T, lt→ltb}
 use lib.ListN.{length, get_or}
 use Rattle.bounds.specs.Bounds.{max_constants, max_atoms, max_variables, set_bits, set_numbers}
 use Rattle.el.specs.Table.{Filler, top_f, constant_f, variable_f, Entry, constant, restriction, variable, Table}
@@ -20,7 +22,7 @@ use Rattle.table.specs.Code.{kind_of, filler_of, filler_of_kind, entry_of, entry
 use Rattle.table.specs.CodeLaws.{within_some, within_is, filler_writes, entry_writes}
 use Rattle.bounds.specs.WidthLaws.{power_fits}
 use Rattle.order.specs.Rule.{filler_set, entry_set, is_constant, flat_test}
-use Rattle.order.specs.Given.{filler_from_kind, filler_from, entry_from_kind, entry_from, FillerFits, EntryFits, SetsGiven}
+use Rattle.order.specs.Given.{filler_from_kind, filler_from, entry_from_kind, entry_from, FillerFits, fills, EntryFits, SetsGiven}
 
 ----------------------------------------------------------------------------------------------------
 -- What a code says, and that it is declared
@@ -51,6 +53,19 @@ filler_more c v h m b f q = go (filler_writes c v b f q) ∙ ap some (sym (fille
     go (fills_top i) = ap (filler_of_kind max_constants max_variables) i
     go (fills_constant k i l) = ap (filler_of_kind max_constants max_variables) i ∙ within_is k max_constants (constant_f k) (lt→ltb k max_constants (omega arith))
     go (fills_variable k i l) = ap (filler_of_kind max_constants max_variables) i ∙ within_is k max_variables (variable_f k) (lt→ltb k max_variables (omega arith))
+
+-- the test of a filler
+pub fits_fills : (b : ℕ) → FillerFits b → T (fills b)
+unfolding FillerFits fills
+fits_fills b q = rw (q, T) tt
+
+pub fills_fits : (b : ℕ) → T (fills b) → FillerFits b
+unfolding FillerFits fills
+fills_fits b u = go (filler_of max_constants max_variables b) refl u
+  where
+    go : (o : Option Filler) → filler_of max_constants max_variables b ≡ o → T (elim o [ none ↦ false | some f ↦ true ]) → filler_of max_constants max_variables b ≡ some (filler_from b)
+    go none e v = absurd v
+    go (some f) e v = e ∙ ap some (sym (filler_read max_constants max_variables b f e))
 
 pub entry_more : (c e v : ℕ) → c + e ≤ max_atoms → v ≤ max_variables → (b : ℕ) (x : Entry) → entry_of c e v b ≡ some x → EntryFits c b
 unfolding EntryFits entry_of entry_of_kind

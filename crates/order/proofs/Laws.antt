@@ -23,24 +23,26 @@ use Rattle.table.specs.Layout.{line_at, IsRowFiller, IsEntryCode, AtLine, Layout
 use Rattle.table.specs.LayoutLaws.{layout}
 use Rattle.order.specs.Rule.{entry_set, union_to, left_set, set_test, filler_test, left_test, line_test}
 use Rattle.order.specs.RuleLaws.{left_union, line_rule}
+use Rattle.order.specs.declared.Rows.{Rows}
 use Rattle.order.specs.Given.{entry_from, EntryFits, Asking, LineGiven}
 use Rattle.order.specs.Asked.{missing, each_ask, filler_asked}
-use Rattle.order.proofs.CodeLaws.{filler_more, entry_more, entry_read}
+use Rattle.order.proofs.CodeLaws.{fits_fills, filler_more, entry_more, entry_read}
 use Rattle.order.proofs.AskedLaws.{filler_asked_lem, each_asked_lem}
 
-pub few_atoms : (s : List ℕ) (c e : ℕ) → T (is_readable (reading s)) → c ≡ (header_of s).c → e ≡ (header_of s).e → c + e ≤ max_atoms
+few_atoms : (s : List ℕ) (c e : ℕ) → T (is_readable (reading s)) → c ≡ (header_of s).c → e ≡ (header_of s).e → c + e ≤ max_atoms
 few_atoms s c e ok p q = let h : (header_of s).c + (header_of s).e ≤ max_atoms = (layout s ok).few_atoms in omega arith
 
-pub asking : (s over inner : List ℕ) (a : Assignment) (c e v at : ℕ) → LineGiven s over inner a c e v at → Asking over inner a c e
-asking s over inner a c e v at g =
+pub asking : (s : List ℕ) → T (is_readable (reading s)) → (p : Rows) (a : Assignment) (at : ℕ) → LineGiven s p a at → Asking p a
+asking s ok p a at g =
     record {
-      few_atoms = few_atoms s c e g.readable g.constants g.restrictions;
-      few_rows = (let h = g.restrictions in let l = (layout s g.readable).few_restrictions in omega arith);
+      few_atoms = few_atoms s p.c p.e ok g.rows.constants g.rows.restrictions;
+      few_rows = (let h = g.rows.restrictions in let l = (layout s ok).few_restrictions in omega arith);
       over_many = g.rows.over_many;
       inner_many = g.rows.inner_many;
       sets = g.sets;
-      fits = λ k h. filler_more (header_of s).c (header_of s).v (layout s g.readable).few_constants (layout s g.readable).few_variables (get_or inner k 0) (row_at (table_of s).rows k).filler
-          (unfold IsRowFiller in g.rows.inner_is k (subst (λ (n : ℕ). k < n) g.restrictions h));
+      fits = λ k h. fits_fills (get_or p.inner k 0)
+          (filler_more (header_of s).c (header_of s).v (layout s ok).few_constants (layout s ok).few_variables (get_or p.inner k 0) (row_at (table_of s).rows k).filler
+          (unfold IsRowFiller in g.rows.inner_is k (subst (λ (n : ℕ). k < n) g.rows.restrictions h)));
     }
 
 -- the entries of the line that begins at the byte `at`, one of which the code b writes
@@ -70,18 +72,18 @@ pub left_whole : (t : Table) (a : Assignment) (l : List Entry) (p i L : ℕ) →
 unfolding left_set
 left_whole t a l p i L many h k e = e ∙ ap (union_to t a l) (let q : i ≡ p = omega arith in q ∙ many)
 
-pub line_asked : (s over inner : List ℕ) (a : Assignment) (c e v at : ℕ) → LineGiven s over inner a c e v at → (L R b : ℕ)
-    → AtLine s at (λ l. L ≡ left_set (table_of s) a l.left) → AtLine s at (λ l. IsEntryCode s l.right b) → ((t : Table) → c ≡ t.constants → R ≡ entry_set t a (entry_from b))
-    → AtLine s at (λ l. each_ask over inner a c e (filler_asked over inner a c e v) L (missing L R) ≡ holds (role_order (table_of s)) (table_of s).rows (induced (table_of s) a) l)
-line_asked s over inner a c e v at g L R b union writes set n few begins =
-    each_asked_lem s over inner a c e v at g v (filler_asked_lem s over inner a c e v at g v) L R
-    ∙ all_below_same (atoms (table_of s)) (λ j. not (bit j R) || set_test (role_order (table_of s)) (table_of s) (filler_test (role_order (table_of s)) (table_of s) a v) L j) (λ j. not (bit j R) || left_test (role_order (table_of s)) (table_of s) a line.left j) (λ j h. ap (λ b. not (bit j R) || b) (sym (left j)))
+pub line_asked : (s : List ℕ) (ok : T (is_readable (reading s))) (p : Rows) (a : Assignment) (at : ℕ) → LineGiven s p a at → (L R b : ℕ)
+    → AtLine s at (λ l. L ≡ left_set (table_of s) a l.left) → AtLine s at (λ l. IsEntryCode s l.right b) → ((t : Table) → p.c ≡ t.constants → R ≡ entry_set t a (entry_from b))
+    → AtLine s at (λ l. each_ask p a (filler_asked p a p.v) L (missing L R) ≡ holds (role_order (table_of s)) (table_of s).rows (induced (table_of s) a) l)
+line_asked s ok p a at g L R b union writes set n few begins =
+    each_asked_lem s ok p g.rows a p.v (filler_asked_lem s ok p g.rows a p.v) L R
+    ∙ all_below_same (atoms (table_of s)) (λ j. not (bit j R) || set_test (role_order (table_of s)) (table_of s) (filler_test (role_order (table_of s)) (table_of s) a p.v) L j) (λ j. not (bit j R) || left_test (role_order (table_of s)) (table_of s) a line.left j) (λ j h. ap (λ b. not (bit j R) || b) (sym (left j)))
     ∙ ap (λ (S : ℕ). all_below (atoms (table_of s)) (λ j. not (bit j S) || left_test (role_order (table_of s)) (table_of s) a line.left j)) right
     ∙ opened line
     ∙ line_rule (role_order (table_of s)) (table_of s) l.all_declared a g.acyclic line here
   where
     l : Layout s (table_of s)
-    l = layout s g.readable
+    l = layout s ok
 
     line : Line
     line = line_at (table_of s).lines n
@@ -92,10 +94,10 @@ line_asked s over inner a c e v at g L R b union writes set n few begins =
     opened : (x : Line) → all_below (atoms (table_of s)) (λ j. not (bit j (entry_set (table_of s) a x.right)) || left_test (role_order (table_of s)) (table_of s) a x.left j) ≡ line_test (role_order (table_of s)) (table_of s) a x
     opened x = unfold line_test in refl
 
-    left : (j : ℕ) → left_test (role_order (table_of s)) (table_of s) a (line_at (table_of s).lines n).left j ≡ set_test (role_order (table_of s)) (table_of s) (filler_test (role_order (table_of s)) (table_of s) a v) L j
+    left : (j : ℕ) → left_test (role_order (table_of s)) (table_of s) a (line_at (table_of s).lines n).left j ≡ set_test (role_order (table_of s)) (table_of s) (filler_test (role_order (table_of s)) (table_of s) a p.v) L j
     left j =
         left_union (role_order (table_of s)) (table_of s) a (line_at (table_of s).lines n).left j
-        ∙ ap₂ (λ (k S : ℕ). set_test (role_order (table_of s)) (table_of s) (filler_test (role_order (table_of s)) (table_of s) a k) S j) (l.variables ∙ sym g.variables) (sym (union n few begins))
+        ∙ ap₂ (λ (k S : ℕ). set_test (role_order (table_of s)) (table_of s) (filler_test (role_order (table_of s)) (table_of s) a k) S j) (l.variables ∙ sym g.rows.variables) (sym (union n few begins))
 
     right : R ≡ entry_set (table_of s) a (line_at (table_of s).lines n).right
-    right = set (table_of s) (g.constants ∙ sym l.constants) ∙ ap (entry_set (table_of s) a) (entry_is s g.readable b (line_at (table_of s).lines n).right (writes n few begins))
+    right = set (table_of s) (g.rows.constants ∙ sym l.constants) ∙ ap (entry_set (table_of s) a) (entry_is s ok b (line_at (table_of s).lines n).right (writes n few begins))

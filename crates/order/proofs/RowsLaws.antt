@@ -1,7 +1,7 @@
 -- The loops that prepare the rows.
 --
 --   role_low, lies_by == the role of a row has a mask, and what it says
---   over_start, over_hit, over_miss, over_whole == the rows whose roles lie under row j's, one more at a time
+--   over_start, over_hit, over_miss == the rows whose roles lie under row j's, one more at a time
 --   rows_start, rows_step, rows_whole           == row by row
 use mathlib.Core.Path.{◌≡◌, sym, ap, ap₂, subst, ◌∙◌}
 use mathlib.Core.Bool.{Bool, true, false, ◌&&◌, ◌||◌, and-true, and-false, or-false}
@@ -26,6 +26,7 @@ use Rattle.roles.specs.UnderLaws.{under_bit}
 use Rattle.table.specs.Layout.{IsRowFiller}
 use Rattle.bounds.specs.WidthLaws.{power_fits}
 use Rattle.el.specs.BitLaws.{bit_power, bit_of_or}
+use Rattle.order.specs.declared.Rows.{Rows}
 use Rattle.order.specs.Given.{Over, RowsTo, RowsGiven}
 
 -- one number more among those below n
@@ -65,9 +66,6 @@ module _ (s : List ℕ) (j : ℕ) where
 
   pub over_miss : (n m : ℕ) → role_order (table_of s) (role n) (role j) ≡ false → Over s j n m → Over s j (n + 1) m
   over_miss n m e = over_next n m m false e (λ k. sym (ap (λ u. bit k m || u) (and-false (eqb k n)) ∙ or-false (bit k m)))
-
-  pub over_whole : (e n m : ℕ) → e ≤ n → n ≤ e → Over s j n m → Over s j e m
-  over_whole e n m h l f = subst (λ (i : ℕ). Over s j i m) (let q : n ≡ e = omega arith in q) f
 
 over_at : (s : List ℕ) (j n m : ℕ) → Over s j n m → (k : ℕ) → k < n → bit k m ≡ role_order (table_of s) (row_at (table_of s).rows k).role (row_at (table_of s).rows j).role
 unfolding Over
@@ -124,11 +122,14 @@ rows_step s over inner n m b e few same r o f =
         (subst (IsRowFiller s n) (sym (get_or-set_same inner n b 0 (omega arith))) f)
     inner_at k h (no z) = subst (IsRowFiller s k) (sym (get_or-set_other inner n k b 0 z)) (r.inner_each k (omega arith))
 
-pub rows_whole : (s over inner : List ℕ) (n e : ℕ) → e ≤ n → n ≤ e → e ≡ (header_of s).e → RowsTo s n over inner → RowsGiven s over inner
-rows_whole s over inner n e h l same r =
+pub rows_whole : (s : List ℕ) (p : Rows) (n : ℕ) → p.c ≡ (header_of s).c → p.e ≡ (header_of s).e → p.v ≡ (header_of s).v → p.e ≤ n → n ≤ p.e → RowsTo s n p.over p.inner → RowsGiven s p
+rows_whole s p n constants restrictions variables h l r =
     record {
+      constants = constants;
+      restrictions = restrictions;
+      variables = variables;
       over_many = r.over_many;
       inner_many = r.inner_many;
-      over_is = λ j k p q. over_at s j (header_of s).e (get_or over j 0) (r.over_each j (omega arith)) k q;
-      inner_is = λ k p. r.inner_each k (omega arith);
+      over_is = λ j k a b. over_at s j (header_of s).e (get_or p.over j 0) (r.over_each j (omega arith)) k b;
+      inner_is = λ k a. r.inner_each k (omega arith);
     }

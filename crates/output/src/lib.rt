@@ -2,58 +2,37 @@
 // read back.
 #![tactic(auto)]
 
-ghost use Rattle.std.specs.Prelude.{◌≡◌, ◌++◌, ◌+◌, ◌*◌, ◌^◌, ◌≤◌, ◌<◌, length, take, drop};
-ghost use Rattle.bounds.specs.Bounds.{set_bytes, max_variables};
-ghost use Rattle.output.specs.Written.{little_endian, number_at, widest, set_in, written};
+ghost use Rattle.std.specs.Prelude.{◌≡◌, ◌+◌, ◌*◌, ◌^◌, ◌≤◌, ◌<◌, length};
+ghost use Rattle.bounds.specs.Bounds.{set_bytes};
+ghost use Rattle.output.specs.Written.{number_at, widest, set_in, written};
 
 use bounds::SetNumber;
 
-// A set number, at the start of the part.
-fn put_set(part: &mut [u8], x: SetNumber)
-    requires { set_bytes ≤ length part.old }
-    ensures { part.new ≡ little_endian set_bytes x ++ drop set_bytes part.old }
-{
-    let mut rest = x;
-    let mut i = 0;
-    while i < bounds::SET_BYTES {
-        part[i] = (rest % 256) as u8;
-        rest = rest / 256;
-        i += 1;
-    }
-}
+// An output with room for every variable.
+pub const ROOM: usize = bounds::SET_BYTES * bounds::MAX_VARIABLES;
 
-// The set numbers of the first `n` variables, each from its own offset on.
-pub fn put_all(out: &mut [u8], set: [SetNumber; bounds::MAX_VARIABLES], n: usize)
-    requires { (n ≤ max_variables) × (set_bytes * n ≤ length out.old) }
-    ensures { out.new ≡ written (take n set) out.old }
+// The most bytes of a number that is read.
+const WIDEST: usize = 8;
+
+// The set numbers of the first variables, each from its own offset on.
+pub fn put_all(out: &mut [u8], sets: &[SetNumber])
+    requires { set_bytes * length sets.now ≤ length out.old }
+    ensures { out.new ≡ written sets.now out.old }
 {
-    let mut i = 0;
-    while i < n {
+    for (i, set) in sets.iter().enumerate() {
         let at = bounds::SET_BYTES * i;
-        let x = set[i];
-        put_set(&mut out[at..], x);
-        i += 1;
+        out[at..at + bounds::SET_BYTES].copy_from_slice(&set.to_le_bytes());
     }
 }
 
-fn wide(x: u8) -> u64
-    ensures { (result ≡ x) × (result < 256) }
-{
-    x as u64
-}
-
-// The number in `width` bytes, little-endian: its last byte first.
+// The number in `width` bytes, little-endian.
 pub fn number_at(bytes: &[u8], at: usize, width: usize) -> u64
     requires { (width ≤ widest) × (at + width ≤ length bytes.now) }
     ensures { (result ≡ number_at width bytes.now at) × (result < 256 ^ width) }
 {
-    let mut n = 0;
-    let mut k = 0;
-    while k < width {
-        k += 1;
-        n = wide(bytes[at + width - k]) + 256 * n;
-    }
-    n
+    let mut word = [0; WIDEST];
+    word[..width].copy_from_slice(&bytes[at..at + width]);
+    u64::from_le_bytes(word)
 }
 
 // The set number of variable x, read back.
@@ -61,5 +40,5 @@ pub fn set_in(out: &[u8], x: usize) -> SetNumber
     requires { set_bytes * x + set_bytes ≤ length out.now }
     ensures { result ≡ set_in out.now x }
 {
-    number_at(out, bounds::SET_BYTES * x, bounds::SET_BYTES) as SetNumber
+    number_at(out, bounds::SET_BYTES * x, bounds::SET_BYTES)
 }

@@ -4,9 +4,10 @@
 --   word_sides             == the sides of an axiom
 --   Sought                 == the axioms of the items from byte `from` on are those of the items from byte `at` on
 --   sought_start, sought_turn, sought_sub, sought_equivalent, sought_none == item by item
+--   axiom_is               == an axiom of the code
 use mathlib.Core.Path.{◌≡◌, refl, sym, ap, subst, ◌∙◌}
 use mathlib.Core.List.{List, [], ◌∷◌}
-use Prim.Native.Nat.{ℕ, ◌+◌}
+use Prim.Native.Nat.{ℕ, ◌+◌, ◌≤◌, ◌<◌}
 use native.Mathlib.Omega.{arith}
 use lib.ListN.{length}
 use Rattle.owl.specs.Tree.{short, full, sub_class_of, equivalent_classes, Entity, class, object_property, Item, declaration, stated, axioms_of}
@@ -19,7 +20,9 @@ use Rattle.owl_class.specs.Ends.{rest_tokens, deeper, skip, Jumps, EndsAt}
 use Rattle.owl_class.proofs.EndLaws.{first, rest_first}
 use Rattle.owl_axiom.specs.Passing.{Passing, passing, step, Stands}
 use Rattle.owl_axiom.specs.PassingLaws.{stands_step, stands_jump, class_past}
-use Rattle.owl_axiom.specs.Axioms.{ItemsAt, fresh_in, WordSides, AxiomIs, NextAxiom}
+use Rattle.owl_axiom.specs.declared.Axiom as code
+use Rattle.owl_axiom.specs.declared.AxiomKind.{AxiomKind}
+use Rattle.owl_axiom.specs.Axioms.{ItemsAt, fresh_in, WordSides, AxiomIs, NextAxiom, axiom_number, IsAxiom}
 
 pub stands_kind : (s : List ℕ) (at q n k p e : ℕ) (t : Token) (ts : List Token) → Stands s at (passing q n (t ∷ ts)) → AtToken s at k p e → kind t ≡ k
 stands_kind s at q n k p e t ts c a = sym (ap first c.left) ∙ (rest_first s at k p e a c.within).0
@@ -102,11 +105,11 @@ sought_turn s from at k p e r c a h d j q n items b = let w = c q n items b in g
 
 -- an axiom, or no item
 module _ (s : List ℕ) (from at k p e : ℕ) (c : Sought s from at) (a : AtToken s at k p e) where
-  pub sought_sub : (j left right end : ℕ) → j ≡ k → k ≡ 9 → WordSides s e left right end → NextAxiom s from j left right end
+  pub sought_sub : (left right end : ℕ) → k ≡ 9 → WordSides s e left right end → NextAxiom s from 9 left right end
   unfolding Sought WordSides NextAxiom axioms_of sort_after word_sorts number_after is_name
-  sought_sub j left right end y h f q n items b =
+  sought_sub left right end h f q n items b =
       let w = c q n items b in
-      ((λ z. absurd (let x : ⊥ = omega arith in x)), (λ z. go w.0 w.1 w.2 w.3 (items_kind s at w.0 n k p e w.1 w.2 a)), (λ x z. absurd (z (y ∙ h))))
+      ((λ z. absurd (let x : ⊥ = omega arith in x)), (λ z. go w.0 w.1 w.2 w.3 (items_kind s at w.0 n k p e w.1 w.2 a)), (λ x z. absurd (z refl)))
     where
       go : (q' : ℕ) (rest : List Item) → ItemsAt s at q' n rest → axioms_of items ≡ axioms_of rest → beginning rest ≡ k → AxiomIs s sub_class_of items n left right end
       go q' [] x y i = absurd (let z : ⊥ = omega arith in z)
@@ -120,9 +123,9 @@ module _ (s : List ℕ) (from at k p e : ℕ) (c : Sought s from at) (a : AtToke
       }
       go q' (stated (equivalent_classes C D) ∷ rest) x y i = absurd (let z : ⊥ = omega arith in z)
 
-  pub sought_equivalent : (j left right end : ℕ) → j ≡ k → k ≡ 10 → WordSides s e left right end → NextAxiom s from j left right end
+  pub sought_equivalent : (left right end : ℕ) → k ≡ 10 → WordSides s e left right end → NextAxiom s from 10 left right end
   unfolding Sought WordSides NextAxiom axioms_of sort_after word_sorts number_after is_name
-  sought_equivalent j left right end y h f q n items b =
+  sought_equivalent left right end h f q n items b =
       let w = c q n items b in
       ((λ z. absurd (let x : ⊥ = omega arith in x)), (λ z. absurd (let x : ⊥ = omega arith in x)), (λ x z. go w.0 w.1 w.2 w.3 (items_kind s at w.0 n k p e w.1 w.2 a)))
     where
@@ -149,3 +152,13 @@ module _ (s : List ℕ) (from at k p e : ℕ) (c : Sought s from at) (a : AtToke
       go (declaration E ∷ rest) i = absurd (let z : ⊥ = omega arith in z)
       go (stated (sub_class_of C D) ∷ rest) i = absurd (let z : ⊥ = omega arith in z)
       go (stated (equivalent_classes C D) ∷ rest) i = absurd (let z : ⊥ = omega arith in z)
+
+pub axiom_is : (s : List ℕ) (from : ℕ) (a : code.Axiom) (k : AxiomKind) → a.kind ≡ k → NextAxiom s from (axiom_number k) a.left a.right a.end → from < a.end → a.left ≤ length s → a.right ≤ length s → a.end ≤ length s →
+    IsAxiom s from a
+axiom_is s from a k e h f l r b = record {
+  is = subst (λ (k : AxiomKind). NextAxiom s from (axiom_number k) a.left a.right a.end) (sym e) h;
+  goes = f;
+  left = l;
+  right = r;
+  end = b;
+}

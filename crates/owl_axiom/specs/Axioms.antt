@@ -10,11 +10,17 @@
 --                         it begin behind byte `end`
 --   NextAxiom s at kind left right end == what the code tells of the first axiom of the items from byte `at` on. Kind 0: there is none; 9:
 --                         SubClassOf; any other: EquivalentClasses
-use Rattle.std.specs.Prelude.{◌≡◌, List, [], ◌∷◌, ℕ, ◌+◌}
+--   axiom_number k     == what an axiom of the code says, as a number
+--   IsAxiom s from a   == a is the first axiom of the items from byte `from` on; the items behind it begin behind that byte
+--   FindsAxiom s from o == o is that axiom, if there is one
+use Rattle.std.specs.Prelude.{◌≡◌, List, [], ◌∷◌, ℕ, ◌+◌, ◌≤◌, ◌<◌, length, Option, Some, None}
 use Rattle.owl.specs.Tree.{Class, Axiom, sub_class_of, equivalent_classes, Item, Head, File, axioms_of}
 use Rattle.owl.specs.Written.{Token, ‹left›, ‹right›, written, written_items, written_head, Says}
 use Rattle.owl.specs.Mention.{names_in}
 use Rattle.owl.specs.Flattening.{concept_of, fresh}
+use Rattle.owl_axiom.specs.declared.Axiom as code
+use Rattle.owl_axiom.specs.declared.AxiomKind.{AxiomKind}
+use Rattle.owl_axiom.specs.declared.AxiomKind.TheVariants.{SubClassOf, EquivalentClasses}
 use Rattle.owl_axiom.specs.Passing.{passing, Stands, SideAt}
 
 abbrev pub ItemsAt : List ℕ → ℕ → ℕ → ℕ → List Item → Type 0
@@ -48,3 +54,18 @@ unfoldable pub NextAxiom : List ℕ → ℕ → ℕ → ℕ → ℕ → ℕ → 
 NextAxiom s at kind left right end =
     (q n : ℕ) (items : List Item) → ItemsAt s at q n items →
     (kind ≡ 0 → axioms_of items ≡ []) × (kind ≡ 9 → AxiomIs s sub_class_of items n left right end) × ((kind ≡ 0 → ⊥) → (kind ≡ 9 → ⊥) → AxiomIs s equivalent_classes items n left right end)
+
+abbrev pub axiom_number : AxiomKind → ℕ
+axiom_number SubClassOf = 9
+axiom_number EquivalentClasses = 10
+
+pub record IsAxiom (s : List ℕ) (from : ℕ) (a : code.Axiom) : Type 0 where
+  pub is : NextAxiom s from (axiom_number a.kind) a.left a.right a.end
+  pub goes : from < a.end
+  pub left : a.left ≤ length s
+  pub right : a.right ≤ length s
+  pub end : a.end ≤ length s
+
+abbrev pub FindsAxiom : List ℕ → ℕ → Option code.Axiom → Type 0
+FindsAxiom s from None = NextAxiom s from 0 from from from
+FindsAxiom s from (Some a) = IsAxiom s from a

@@ -1,15 +1,15 @@
 -- Laws of the call.
 --
---   constants_few, constants_many, .. == how many names there are
---   counts_all, counts_none, counted_make == whether the counts are within their bounds
---   counted_small, lines_room_lem == numbers that the code adds
---   header_as, table_put == header, rows and lines, one after the other
---   counts_over, lines_over, too_short, all_made == each answer to a text whose names are declared
+--   names_within == how many names of a group there are
+--   over_constants, over_roles, over_opens, over_fresh, over_rows, counted_make == whether the counts are within their bounds
+--   table_put == header, rows and lines, one after the other
+--   counts_over, lines_over, counts_err, lines_err, too_short, all_made == each answer to a text whose names are declared
 --   call_spoiled, call_unknown, call_said == each answer to a text
-use mathlib.Core.Path.{◌≡◌, sym, ap, ap₂, subst, ◌∙◌}
-use mathlib.Core.Bool.{Bool, true, false}
+use Rattle.std.specs.Prelude.{Option, Some, None, Result, Ok, Err}
+use Rattle.std.specs.Option.{ok_or}
+use mathlib.Core.Path.{◌≡◌, refl, sym, ap, ap₂, subst, ◌∙◌}
 use mathlib.Core.List.{List, [], ◌++◌, flat_map}
-use Prim.Native.Nat.{ℕ, ◌+◌, ◌*◌, ◌≤◌, ◌<◌}
+use Prim.Native.Nat.{ℕ, ◌+◌, ◌-◌, ◌*◌, ◌≤◌, ◌<◌, min}
 use native.Mathlib.Omega.{arith}
 use lib.Dec.{T, ltb, ltb→lt}
 use lib.ListN.{length, take, drop, length-append, take-append-drop}
@@ -29,9 +29,9 @@ use Rattle.owl.specs.Once.{once}
 use Rattle.owl.specs.Tree.{File}
 use Rattle.owl.specs.Naming.{Names, names_of, all_known}
 use Rattle.owl.specs.Written.{Says}
-use Rattle.owl.specs.Grammar.{checked}
+use Rattle.owl.specs.Grammar.{Verdict, checked}
 use Rattle.owl.specs.TextLaws.{accepted_means}
-use Rattle.owl.specs.Mention.{undeclared}
+use Rattle.owl.specs.Mention.{names_in, undeclared}
 use Rattle.owl.specs.MentionLaws.{names_said}
 use Rattle.owl.specs.UndeclaredLaws.{undeclared_means}
 use Rattle.owl.specs.Flattening.{table_of, flat_table}
@@ -39,83 +39,78 @@ use Rattle.owl.specs.FlatteningLaws.{flat_declared}
 use Rattle.owl.specs.Restriction.{standing, restrictions_of, same_restriction, rows_for}
 use Rattle.owl.specs.RestrictionLaws.{fresh_said}
 use Rattle.owl.specs.RowLaws.{rows_once, rows_length}
-use Rattle.owl_name.specs.Declared.{UpTo}
-use Rattle.owl_name.proofs.NumberLaws.{constants_count, opens_count, roles_count}
-use Rattle.owl_line.specs.Sides.{small, small_line, Few, Done}
+use Rattle.owl_text.specs.declared.Refusal as spelt
+use Rattle.owl_text.specs.declared.Reason as reasons
+use Rattle.owl_text.specs.declared.Reason.TheVariants as why
+use Rattle.owl_text.specs.Verdict.{reason_number, verdict_of}
+use Rattle.owl_name.specs.declared.Group.{Group}
+use Rattle.owl_name.specs.Declarations.{group_number, group_names, UpTo}
+use Rattle.owl_name.proofs.NumberLaws.{group_count}
+use Rattle.owl_line.specs.Sides.{small, small_line, Few}
 use Rattle.owl_make.specs.Lines.{opens_in, LinesDone}
 use Rattle.owl_table.specs.Rows.{small_row, rows_of, PutRows}
 use Rattle.owl_answer.specs.Owl.{owl, InBounds, TableAt, over, short, made, OwlAt, spoiled, unknown, said}
-use Rattle.owl_call.specs.Call.{constants_in, roles_in, freshes_in, row_count, WithinCounts, Counted, CountsAre, lines_room, LinesIn, header_bytes, PutTable, TableMade}
+use Rattle.owl_line.specs.declared.parts.Passed.{Passed}
+use Rattle.owl_call.specs.declared.parts.Totals.{Totals}
+use Rattle.owl_call.specs.declared.Refusal.{Refusal}
+use Rattle.owl_call.specs.declared.Refusal.TheVariants.{Spoiled, Undeclared, OverBound, Short}
+use Rattle.owl_call.specs.Call.{constants_in, roles_in, freshes_in, row_count, Within, WithinCounts, Counted, CountsAre, lines_room, LinesIn, header_bytes, PutTable, answer_of, TableMade}
 
-pub counts_all : (s : List ℕ) (c r o v e : ℕ) → Counted s c r o v e → CountsAre s true c r o v e
-unfolding CountsAre
-counts_all s c r o v e x = ((λ z. x), (λ z. absurd (subst T z tt)))
+-- how many names there are
+pub names_within : (s : List ℕ) (g : Group) (most r : ℕ) (o : Option ℕ) → UpTo s (group_number g) most r → Within most r o → Within most (length (group_names (names_in s) (group_number g))) o
+unfolding UpTo
+names_within s g most r None u w = subst (λ (k : ℕ). most < k) (group_count s g) (u.1 w)
+names_within s g most r (Some k) u w =
+    let e : r ≡ length (group_names (names_in s) (group_number g)) = u.0 w.1 ∙ group_count s g in
+    (w.0 ∙ e, subst (λ (k : ℕ). k ≤ most) e w.1)
 
-pub counts_none : (s : List ℕ) (within : Bool) (c r o v e : ℕ) → within ≡ false → (WithinCounts s → ⊥) → CountsAre s within c r o v e
-unfolding CountsAre
-counts_none s within c r o v e y x = ((λ z. absurd (subst T (sym z ∙ y) tt)), (λ z. x))
+-- a bound is passed
+module _ (s : List ℕ) where
+  pub over_constants : max_constants < length (group_names (names_in s) 0) → WithinCounts s → ⊥
+  unfolding group_names
+  over_constants h w = let few : constants_in s ≤ max_constants = w.few_constants in omega arith
 
-pub counted_make : (s : List ℕ) (c r o n e : ℕ) → c ≡ constants_in s → r ≡ roles_in s → o ≡ opens_in s → n ≡ freshes_in s → e ≡ row_count s → c ≤ max_constants → e ≤ max_restrictions → c + e ≤ max_atoms → r ≤ max_roles → o + n ≤ max_variables → Counted s c r o (o + n) e
-counted_make s c r o n e a b d g h i j k l m = record {
-  constants = a;
-  roles = b;
-  opens = d;
-  variables = ap₂ (λ (i j : ℕ). i + j) d g;
-  rows = h;
-  within = record { few_constants = omega arith; few_rows = omega arith; few_atoms = omega arith; few_roles = omega arith; few_variables = omega arith };
-}
+  pub over_roles : max_roles < length (group_names (names_in s) 2) → WithinCounts s → ⊥
+  unfolding group_names
+  over_roles h w = let few : roles_in s ≤ max_roles = w.few_roles in omega arith
 
--- the counts as bytes
-pub header_as : (c r v e m c' r' v' e' m' : ℕ) (b a : List ℕ) (i : ℕ) → c' ≡ c → r' ≡ r → v' ≡ v → e' ≡ e → m' ≡ m → Appended b 0 (header_bytes c' r' v' e' m') a i → Appended b 0 (header_bytes c r v e m) a i
-header_as c r v e m c' r' v' e' m' b a i x y z w u h =
-    appended_as h
-    (ap₂ (λ (k l : ℕ). header_bytes k l v' e' m') x y ∙ ap₂ (λ (k l : ℕ). header_bytes c r k l m') z w ∙ ap (header_bytes c r v e) u)
+  pub over_opens : max_variables < length (group_names (names_in s) 1) → WithinCounts s → ⊥
+  unfolding group_names
+  over_opens h w = let few : opens_in s + freshes_in s ≤ max_variables = w.few_variables in omega arith
 
-pub table_put : (s : List ℕ) (opens c r v e m : ℕ) (lines b b' : List ℕ) (i : ℕ) (b'' : List ℕ) (j : ℕ) (a : List ℕ) (end : ℕ) → Appended b 0 (header_bytes c r v e m) b' i → PutRows s opens b' i b'' j →
-    Appended b'' j lines a end → PutTable s opens c r v e m lines b a end
+  pub over_fresh : (o n : ℕ) → o ≡ length (group_names (names_in s) 1) → n ≡ freshes_in s → max_variables - o < n → WithinCounts s → ⊥
+  unfolding group_names
+  over_fresh o n d e h w = let few : opens_in s + freshes_in s ≤ max_variables = w.few_variables in omega arith
+
+  pub over_rows : (c n m : ℕ) → c ≡ length (group_names (names_in s) 0) → n ≡ row_count s → m ≡ min max_restrictions (max_atoms - c) → m < n → WithinCounts s → ⊥
+  unfolding group_names
+  over_rows c n m d e g h w = let few : row_count s ≤ max_restrictions = w.few_rows in let both : constants_in s + row_count s ≤ max_atoms = w.few_atoms in omega arith
+
+  pub counted_make : (t : Totals) (n f m : ℕ) → Within max_constants (length (group_names (names_in s) 0)) (Some t.constants) → Within max_roles (length (group_names (names_in s) 2)) (Some t.roles) →
+      Within max_variables (length (group_names (names_in s) 1)) (Some t.opens) → n ≡ freshes_in s → Within (max_variables - t.opens) n (Some f) → (e : ℕ) → e ≡ row_count s →
+      m ≡ min max_restrictions (max_atoms - t.constants) → Within m e (Some t.rows) → t.variables ≡ t.opens + f → Counted s t
+  unfolding group_names
+  counted_make t n f m a b d g i e h k j v = record {
+    constants = a.0;
+    roles = b.0;
+    opens = d.0;
+    variables = v ∙ ap₂ (λ (i j : ℕ). i + j) d.0 (i.0 ∙ g);
+    rows = j.0 ∙ h;
+    within =
+        let c : t.constants ≡ constants_in s = a.0 in
+        let o : t.opens ≡ opens_in s = d.0 in
+        let few : constants_in s ≤ max_constants = a.1 in
+        let roles : roles_in s ≤ max_roles = b.1 in
+        let opens : opens_in s ≤ max_variables = d.1 in
+        let fresh : n ≤ max_variables - t.opens = i.1 in
+        let rows : e ≤ m = j.1 in
+        record { few_constants = omega arith; few_rows = omega arith; few_atoms = omega arith; few_roles = omega arith; few_variables = omega arith };
+  }
+
+pub table_put : (s : List ℕ) (opens : ℕ) (t : Totals) (m : ℕ) (lines b b' : List ℕ) (i : ℕ) (b'' : List ℕ) (j : ℕ) (a : List ℕ) (end : ℕ) → Appended b 0 (header_bytes t.constants t.roles t.variables t.rows m) b' i →
+    PutRows s opens b' i b'' j → Appended b'' j lines a end → PutTable s opens t m lines b a end
 unfolding PutTable PutRows
-table_put s opens c r v e m lines b b' i b'' j a end x y w small = appended_then x (appended_then (y small) w)
-
--- how many names there are, where they are no more than `most`; else they are more
-pub constants_few : (s : List ℕ) (most r : ℕ) → UpTo s 0 most r → r ≤ most → r ≡ constants_in s
-unfolding UpTo
-constants_few s most r x h = x.0 h ∙ constants_count s
-
-pub constants_many : (s : List ℕ) (most r : ℕ) → UpTo s 0 most r → most < r → most < constants_in s
-unfolding UpTo
-constants_many s most r x h = subst (λ (k : ℕ). most < k) (constants_count s) (x.1 h)
-
-pub opens_few : (s : List ℕ) (most r : ℕ) → UpTo s 1 most r → r ≤ most → r ≡ opens_in s
-unfolding UpTo
-opens_few s most r x h = x.0 h ∙ opens_count s
-
-pub opens_many : (s : List ℕ) (most r : ℕ) → UpTo s 1 most r → most < r → most < opens_in s
-unfolding UpTo
-opens_many s most r x h = subst (λ (k : ℕ). most < k) (opens_count s) (x.1 h)
-
-pub roles_few : (s : List ℕ) (most r : ℕ) → UpTo s 2 most r → r ≤ most → r ≡ roles_in s
-unfolding UpTo
-roles_few s most r x h = x.0 h ∙ roles_count s
-
-pub roles_many : (s : List ℕ) (most r : ℕ) → UpTo s 2 most r → most < r → most < roles_in s
-unfolding UpTo
-roles_many s most r x h = subst (λ (k : ℕ). most < k) (roles_count s) (x.1 h)
-
--- what the code asks
-pub counted_small : (s : List ℕ) (c r o v e : ℕ) → Counted s c r o v e → (c ≤ 255) × (r ≤ 255) × (v ≤ 255) × (e ≤ max_atoms)
-counted_small s c r o v e x =
-    let a : c ≡ constants_in s = x.constants in
-    let b : r ≡ roles_in s = x.roles in
-    let d : v ≡ opens_in s + freshes_in s = x.variables in
-    let g : e ≡ row_count s = x.rows in
-    let h : constants_in s + row_count s ≤ max_atoms = x.within.few_atoms in
-    let i : roles_in s ≤ max_roles = x.within.few_roles in
-    let j : opens_in s + freshes_in s ≤ max_variables = x.within.few_variables in
-    (omega arith, omega arith, omega arith, omega arith)
-
-pub lines_room_lem : (s : List ℕ) (wide : Bool) (m end : ℕ) (lines : List ℕ) → LinesIn s wide m end lines → length lines ≡ lines_room
-unfolding LinesIn
-lines_room_lem s wide m end lines x = x.2
+table_put s opens t m lines b b' i b'' j a end x y w small = appended_then x (appended_then (y small) w)
 
 ----------------------------------------------------------------------------------------------------
 -- Codes are small where the counts are within their bounds
@@ -235,28 +230,29 @@ module _ (s : List ℕ) (f : File) (e : Says s f) (known : T (all_known f)) wher
   line_bytes = flat_map written_line table.lines
 
   -- the lines that were passed
-  passed : (wide : Bool) (m end : ℕ) (lines : List ℕ) → WithinCounts s → LinesIn s wide m end lines → wide ≡ false →
-      Few table.lines × (m ≡ length table.lines) × (end ≡ length line_bytes) × (take end lines ≡ line_bytes) × (end ≤ length lines)
-  unfolding LinesIn LinesDone Done
-  passed wide m end lines w x z =
-      let d = (x.3 f e known).1 z in
-      let put : Appended x.0 0 line_bytes lines end = d.2 (smalls w).1 in
+  passed : (x : Passed) (lines : List ℕ) → WithinCounts s → LinesIn s x lines →
+      Few table.lines × (x.lines ≡ length table.lines) × (x.end ≡ length line_bytes) × (take x.end lines ≡ line_bytes) × (x.end ≤ length lines)
+  unfolding LinesIn LinesDone
+  passed x lines w h =
+      let d = h.3 f e known in
+      let put : Appended h.0 0 line_bytes lines x.end = d.2 (smalls w).1 in
       let few : length table.lines ≤ max_lines = d.0.few in
       let long : length line_bytes ≤ longest_line * length table.lines = lines_length table.lines d.0.short in
-      let room : length x.0 ≡ lines_room = x.1 in
+      let room : length h.0 ≡ lines_room = h.1 in
       let whole = appended_whole put (omega arith) in
       (d.0, d.1, whole.1 ∙ ap length whole.2, whole.2, whole.0)
 
   -- the bytes of the table
-  table_bytes : (c r o v n m : ℕ) → Counted s c r o v n → m ≡ length table.lines → header_bytes c r v n m ++ (flat_map written_row (rows_of s o) ++ line_bytes) ≡ bytes_of 1 table
+  table_bytes : (t : Totals) (o m : ℕ) → Counted s t → o ≡ opens_in s → m ≡ length table.lines →
+      header_bytes t.constants t.roles t.variables t.rows m ++ (flat_map written_row (rows_of s o) ++ line_bytes) ≡ bytes_of 1 table
   unfolding bytes_of bytes_with has_role_rows written_role_count written_header counts_of flat_table table_of flat_map
-  table_bytes c r o v n m x y =
-      let a : c ≡ table.constants = x.constants ∙ sym is_constants in
-      let b : r ≡ table.roles = x.roles ∙ sym is_roles in
-      let d : v ≡ table.variables = x.variables ∙ sym is_variables in
-      let g : n ≡ length table.rows = x.rows ∙ sym is_count in
-      let h : rows_of s o ≡ table.rows = ap (rows_of s) x.opens ∙ sym is_rows in
-      ap₂ (λ (i j : ℕ). header_bytes i j v n m ++ (flat_map written_row (rows_of s o) ++ line_bytes)) a b
+  table_bytes t o m x opens y =
+      let a : t.constants ≡ table.constants = x.constants ∙ sym is_constants in
+      let b : t.roles ≡ table.roles = x.roles ∙ sym is_roles in
+      let d : t.variables ≡ table.variables = x.variables ∙ sym is_variables in
+      let g : t.rows ≡ length table.rows = x.rows ∙ sym is_count in
+      let h : rows_of s o ≡ table.rows = ap (rows_of s) opens ∙ sym is_rows in
+      ap₂ (λ (i j : ℕ). header_bytes i j t.variables t.rows m ++ (flat_map written_row (rows_of s o) ++ line_bytes)) a b
       ∙ ap₂ (λ (i j : ℕ). header_bytes table.constants table.roles i j m ++ (flat_map written_row (rows_of s o) ++ line_bytes)) d g
       ∙ ap₂ (λ (i : ℕ) (l : List Row). header_bytes table.constants table.roles table.variables (length table.rows) i ++ (flat_map written_row l ++ line_bytes)) y h
 
@@ -271,51 +267,70 @@ module _ (s : List ℕ) (f : File) (e : Says s f) (known : T (all_known f)) wher
 ----------------------------------------------------------------------------------------------------
 -- Each answer
 
-pub counts_over : (s b : List ℕ) (within : Bool) (c r o v e : ℕ) → CountsAre s within c r o v e → within ≡ false → TableMade s b b 12 0 0
-unfolding CountsAre TableMade
-counts_over s b within c r o v e x z f says u = over (λ i. x.1 z (in_within s f says ((undeclared_means s f says).0 u) i))
+module _ (s b : List ℕ) where
+  pub counts_over : CountsAre s None → TableMade s b b (Err OverBound)
+  unfolding TableMade
+  counts_over x f says u = over (λ i. x (in_within s f says ((undeclared_means s f says).0 u) i))
 
-pub counted : (s : List ℕ) (within : Bool) (c r o v e : ℕ) → CountsAre s within c r o v e → within ≡ true → Counted s c r o v e
-unfolding CountsAre
-counted s within c r o v e x z = x.0 z
+  pub lines_over : (m a : List ℕ) → LinesDone s m None a → TableMade s b b (Err OverBound)
+  unfolding LinesDone TableMade
+  lines_over m a x f says u =
+      let known = (undeclared_means s f says).0 u in
+      over (λ i. x f says known (in_few s f says known i))
 
-pub lines_in_lem : (s b : List ℕ) (wide : Bool) (m end : ℕ) (lines : List ℕ) → length b ≡ lines_room → length lines ≡ length b → LinesDone s b wide m end lines → LinesIn s wide m end lines
+-- what `ok_or` says of a count or of lines that are not there, and of those that are
+none_of : {A : Type 0} (o : Option A) (r : Result A Refusal) (w : Refusal) → r ≡ ok_or o OverBound → r ≡ Err w → (o ≡ None) × (w ≡ OverBound)
+none_of None r w p q = (refl, (let k : w ≡ OverBound = cc in k))
+none_of (Some x) r w p q = absurd (cc)
+
+some_of : {A : Type 0} (o : Option A) (r : Result A Refusal) (x : A) → r ≡ ok_or o OverBound → r ≡ Ok x → o ≡ Some x
+some_of None r x p q = absurd (cc)
+some_of (Some y) r x p q = let k : y ≡ x = cc in ap Some k
+
+pub counts_err : (s b : List ℕ) (o : Option Totals) (r : Result Totals Refusal) (w : Refusal) (z : Result ℕ Refusal) → r ≡ ok_or o OverBound → r ≡ Err w → z ≡ Err w → CountsAre s o → TableMade s b b z
+counts_err s b o r w z p q e x =
+    let n = none_of o r w p q in
+    subst (TableMade s b b) (sym (e ∙ ap Err n.1)) (counts_over s b (subst (CountsAre s) n.0 x))
+
+pub lines_err : (s b m a : List ℕ) (o : Option Passed) (r : Result Passed Refusal) (w : Refusal) (z : Result ℕ Refusal) → r ≡ ok_or o OverBound → r ≡ Err w → z ≡ Err w → LinesDone s m o a → TableMade s b b z
+lines_err s b m a o r w z p q e x =
+    let n = none_of o r w p q in
+    subst (TableMade s b b) (sym (e ∙ ap Err n.1)) (lines_over s b m a (subst (λ (o : Option Passed). LinesDone s m o a) n.0 x))
+
+pub lines_in_lem : (s b : List ℕ) (o : Option Passed) (r : Result Passed Refusal) (x : Passed) (lines : List ℕ) → r ≡ ok_or o OverBound → r ≡ Ok x → length b ≡ lines_room → length lines ≡ length b → LinesDone s b o lines → LinesIn s x lines
 unfolding LinesIn
-lines_in_lem s b wide m end lines h k d = (b, h, k ∙ h, d)
+lines_in_lem s b o r x lines p q h k d = (b, h, k ∙ h, subst (λ (o : Option Passed). LinesDone s b o lines) (some_of o r x p q) d)
 
-pub lines_over : (s b : List ℕ) (wide : Bool) (m end : ℕ) (lines : List ℕ) → LinesIn s wide m end lines → wide ≡ true → TableMade s b b 12 0 0
-unfolding LinesIn LinesDone Done TableMade
-lines_over s b wide m end lines x z f says u =
-    let known = (undeclared_means s f says).0 u in
-    over (λ i. (x.3 f says known).0 z (in_few s f says known i))
-
-module _ (s b : List ℕ) (c r o v e : ℕ) (counts : Counted s c r o v e) (wide : Bool) (m end : ℕ) (lines : List ℕ) (x : LinesIn s wide m end lines) (z : wide ≡ false) (n : ℕ) (least : end ≤ length lines → n ≡ end) where
-  pub too_short : (long : ℕ) → long ≡ 10 + 2 * e + n → length b < long → TableMade s b b 17 0 long
+module _ (s b : List ℕ) (t : Totals) (counts : Counted s t) (x : Passed) (lines : List ℕ) (z : LinesIn s x lines) (n : ℕ) (least : n ≡ min x.end (length lines)) where
+  pub too_short : (long : ℕ) → long ≡ 10 + 2 * t.rows + n → length b < long → TableMade s b b (Err (Short long))
   unfolding TableMade
   too_short long l h f says u =
       let known = (undeclared_means s f says).0 u in
-      let w = passed s f says known wide m end lines counts.within x z in
-      let p : n ≡ end = least w.4 in
-      let q : end ≡ length (flat_map written_line (flat_table f).lines) = w.2 in
-      let i : e ≡ row_count s = counts.rows in
+      let w = passed s f says known x lines counts.within z in
+      let fits : x.end ≤ length lines = w.4 in
+      let p : n ≡ x.end = omega arith in
+      let q : x.end ≡ length (flat_map written_line (flat_table f).lines) = w.2 in
+      let i : t.rows ≡ row_count s = counts.rows in
       let t : length (bytes_of 1 (flat_table f)) ≡ 10 + 2 * row_count s + length (flat_map written_line (flat_table f).lines) = table_length s f says known in
       let same : length (bytes_of 1 (flat_table f)) ≡ long = omega arith in
       subst (λ (k : ℕ). TableAt (flat_table f) b (owl 17 0 k b)) same (short (within_in s f says known counts.within w.0) (omega arith))
 
-  pub all_made : (long : ℕ) (a : List ℕ) (last : ℕ) → long ≡ 10 + 2 * e + n → long ≤ length b → PutTable s o c r v e m (take n lines) b a last → TableMade s b a 0 long 0
+  pub all_made : (o long : ℕ) (a : List ℕ) (last : ℕ) → o ≡ opens_in s → long ≡ 10 + 2 * t.rows + n → long ≤ length b → PutTable s o t x.lines (take n lines) b a last → TableMade s b a (Ok long)
   unfolding TableMade PutTable
-  all_made long a last l h put f says u =
+  all_made o long a last opens l h put f says u =
       let known = (undeclared_means s f says).0 u in
-      let w = passed s f says known wide m end lines counts.within x z in
-      let p : n ≡ end = least w.4 in
-      let q : end ≡ length (flat_map written_line (flat_table f).lines) = w.2 in
-      let i : e ≡ row_count s = counts.rows in
+      let w = passed s f says known x lines counts.within z in
+      let fits : x.end ≤ length lines = w.4 in
+      let p : n ≡ x.end = omega arith in
+      let q : x.end ≡ length (flat_map written_line (flat_table f).lines) = w.2 in
+      let i : t.rows ≡ row_count s = counts.rows in
       let B : List ℕ = bytes_of 1 (flat_table f) in
-      let t : length B ≡ 10 + 2 * row_count s + length (flat_map written_line (flat_table f).lines) = table_length s f says known in
+      let y : length B ≡ 10 + 2 * row_count s + length (flat_map written_line (flat_table f).lines) = table_length s f says known in
       let same : length B ≡ long = omega arith in
-      let rows : T (every_of small_row (rows_of s o)) = subst (λ (k : List Row). T (every_of small_row k)) (is_rows s f says known ∙ ap (rows_of s) (sym counts.opens)) (smalls s f says known counts.within).0 in
-      let bytes : header_bytes c r v e m ++ (flat_map written_row (rows_of s o) ++ take n lines) ≡ B =
-      ap (λ (k : List ℕ). header_bytes c r v e m ++ (flat_map written_row (rows_of s o) ++ k)) (ap (λ (k : ℕ). take k lines) p ∙ w.3) ∙ table_bytes s f says known c r o v e m counts w.1 in
+      let rows : T (every_of small_row (rows_of s o)) = subst (λ (k : List Row). T (every_of small_row k)) (is_rows s f says known ∙ ap (rows_of s) (sym opens)) (smalls s f says known counts.within).0 in
+      let bytes : header_bytes t.constants t.roles t.variables t.rows x.lines ++ (flat_map written_row (rows_of s o) ++ take n lines) ≡ B =
+      ap (λ (k : List ℕ). header_bytes t.constants t.roles t.variables t.rows x.lines ++ (flat_map written_row (rows_of s o) ++ k)) (ap (λ (k : ℕ). take k lines) p ∙ w.3)
+      ∙ table_bytes s f says known t o x.lines counts opens w.1 in
       let all : Appended b 0 B a last = appended_as (put rows) bytes in
       let room : (last ≡ 0 + length B) × (take last a ≡ B) × (drop last a ≡ drop last b) = appended_room all (omega arith) in
       let k : last ≡ length B = omega (arith, room.0) in
@@ -327,12 +342,17 @@ module _ (s b : List ℕ) (c r o v e : ℕ) (counts : Counted s c r o v e) (wide
 ----------------------------------------------------------------------------------------------------
 -- The call
 
-pub call_spoiled : (s b : List ℕ) (number place : ℕ) → number ≡ (checked s).number → place ≡ (checked s).place → (number ≡ 0 → ⊥) → OwlAt s b (owl number 0 place b)
-call_spoiled s b number place d e z = subst (OwlAt s b) (ap₂ (λ (i j : ℕ). owl i 0 j b) (sym d) (sym e)) (spoiled (λ y. z (d ∙ y)))
+module _ (s b : List ℕ) where
+  pub call_spoiled : (r : spelt.Refusal) → verdict_of (Err r) ≡ checked s → OwlAt s b (answer_of (Err (Spoiled r)) b)
+  call_spoiled r e = subst (λ (v : Verdict). OwlAt s b (owl v.number 0 v.place b)) (sym e) (spoiled (λ y. some_reason r.reason (ap (λ (v : Verdict). v.number) e ∙ y)))
+    where
+      some_reason : (k : reasons.Reason) → reason_number k ≡ 0 → ⊥
+      some_reason why.Syntax e = omega arith
+      some_reason why.Unlisted e = omega arith
 
-pub call_unknown : (s b : List ℕ) (number place : ℕ) → number ≡ (checked s).number → number ≡ 0 → place ≡ undeclared s → (place ≡ length s → ⊥) → OwlAt s b (owl 11 0 place b)
-call_unknown s b number place d z e l = subst (λ (i : ℕ). OwlAt s b (owl 11 0 i b)) (sym e) (unknown (sym d ∙ z) (λ y. l (e ∙ y)))
+  pub call_unknown : (place : ℕ) → verdict_of (Ok tt) ≡ checked s → place ≡ undeclared s → (place ≡ length s → ⊥) → OwlAt s b (answer_of (Err (Undeclared place)) b)
+  call_unknown place d e l = subst (λ (i : ℕ). OwlAt s b (owl 11 0 i b)) (sym e) (unknown (sym (ap (λ (v : Verdict). v.number) d)) (λ y. l (e ∙ y)))
 
-pub call_said : (s b : List ℕ) (number place : ℕ) (a : List ℕ) (answer count at : ℕ) → number ≡ (checked s).number → number ≡ 0 → place ≡ undeclared s → place ≡ length s → TableMade s b a answer count at → OwlAt s b (owl answer count at a)
-unfolding TableMade
-call_said s b number place a answer count at d z e l x = let found = (accepted_means s).0 (sym d ∙ z) in let u : undeclared s ≡ length s = sym e ∙ l in said found.0 found.1 u (x found.0 found.1 u)
+  pub call_said : (place : ℕ) (a : List ℕ) (r : Result ℕ Refusal) → verdict_of (Ok tt) ≡ checked s → place ≡ undeclared s → place ≡ length s → TableMade s b a r → OwlAt s b (answer_of r a)
+  unfolding TableMade
+  call_said place a r d e l x = let found = (accepted_means s).0 (sym (ap (λ (v : Verdict). v.number) d)) in let u : undeclared s ≡ length s = sym e ∙ l in said found.0 found.1 u (x found.0 found.1 u)

@@ -1,77 +1,103 @@
 // The call that reads an OWL text: the table of the text goes to a lent buffer.
 #![tactic(auto)]
 
-ghost use Rattle.std.specs.Prelude.{◌≡◌, false, ◌≤◌, length};
-ghost use Rattle.bounds.specs.Bounds.{max_lines};
-ghost use Rattle.text.specs.Append.{Appended};
+ghost use Rattle.std.specs.Prelude.{◌≡◌, ◌≤◌, length};
+ghost use Rattle.owl.specs.Mention.{names_in};
+ghost use Rattle.owl_name.specs.Declarations.{group_number, group_names};
+ghost use Rattle.owl_make.specs.Lines.{opens_in};
 ghost use Rattle.owl_answer.specs.Owl.{owl, OwlAt};
-ghost use Rattle.owl_call.specs.Call.{Counted, CountsAre, LinesIn, header_bytes, PutTable, TableMade};
+ghost use Rattle.owl_call.specs.Call.{Within, Counted, CountsAre, LinesIn, PutTable, refusal_number, refusal_place, answer_of, TableMade};
 
-use owl_line::Passed;
+mod parts;
 
-// How many constants, roles, open names, variables and rows there are, where none of their bounds is passed.
-#[derive(Clone, Copy)]
-pub struct Totals {
-    pub within: bool,
-    pub constants: usize,
-    pub roles: usize,
-    pub opens: usize,
-    pub variables: usize,
-    pub rows: usize,
+use owl_line::{Passed, Source};
+use owl_name::Group;
+use parts::Totals;
+
+// A number, where it is no more than a bound.
+fn within(n: usize, most: usize) -> Option<usize>
+    ensures { Within most n result }
+{
+    (n <= most).then_some(n)
 }
 
-// A bound is passed.
-fn none() -> Totals
-    ensures { result.within ≡ false }
+// How many names of a group there are, where they are no more than a bound.
+fn names(s: &[u8], group: Group, most: usize) -> Option<usize>
+    ensures { Within most (length (group_names (names_in s.now) (group_number group))) result }
 {
-    Totals {
-        within: false,
-        constants: 0,
-        roles: 0,
-        opens: 0,
-        variables: 0,
-        rows: 0,
-    }
+    within(owl_name::up_to(s, group, most), most)
 }
 
 // Names are counted first, and no further than their bounds.
-fn counts(s: &[u8]) -> Totals
-    ensures { CountsAre s.now result.within result.constants result.roles result.opens result.variables result.rows }
+fn counts(s: &[u8]) -> Option<Totals>
+    ensures { CountsAre s.now result }
 {
-    let constants = owl_name::up_to(s, 0, bounds::MAX_CONSTANTS);
-    if bounds::MAX_CONSTANTS < constants {
-        return none();
-    }
-    let roles = owl_name::up_to(s, 2, bounds::MAX_ROLES);
-    if bounds::MAX_ROLES < roles {
-        return none();
-    }
-    let opens = owl_name::up_to(s, 1, bounds::MAX_VARIABLES);
-    if bounds::MAX_VARIABLES < opens {
-        return none();
-    }
-    let fresh = owl_row::fresh(s);
-    if bounds::MAX_VARIABLES - opens < fresh {
-        return none();
-    }
-    let rows = owl_row::rows(s);
-    if bounds::MAX_RESTRICTIONS < rows {
-        return none();
-    }
-    if bounds::MAX_ATOMS - constants < rows {
-        return none();
-    }
-    Totals {
-        within: true,
+    let constants = names(s, Group::Constants, bounds::MAX_CONSTANTS)?;
+    let roles = names(s, Group::Roles, bounds::MAX_ROLES)?;
+    let opens = names(s, Group::Opens, bounds::MAX_VARIABLES)?;
+    let fresh = within(owl_row::fresh(s), bounds::MAX_VARIABLES - opens)?;
+    let rows = within(
+        owl_row::rows(s),
+        bounds::MAX_RESTRICTIONS.min(bounds::MAX_ATOMS - constants),
+    )?;
+    Some(Totals {
         constants,
         roles,
         opens,
         variables: opens + fresh,
         rows,
+    })
+}
+
+// Why a text has no table in the buffer.
+#[derive(Clone, Copy)]
+enum Refusal {
+    // A token spoils the text.
+    Spoiled(owl_text::Refusal),
+    // A name is used that is not declared: the byte where it stands.
+    Undeclared(usize),
+    // A bound is passed.
+    OverBound,
+    // The buffer is too short: how many bytes the table has.
+    Short(usize),
+}
+
+impl From<owl_text::Refusal> for Refusal {
+    ghost use Rattle.owl_call.specs.declared.Refusal.TheVariants.{Spoiled};
+
+    ghost from_gives = { λ why e. e ≡ Spoiled why };
+
+    fn from(why: owl_text::Refusal) -> Refusal {
+        Refusal::Spoiled(why)
     }
 }
 
-// The answer to a text: 0, and how long its table is; or the number and the place of a refusal.
+impl Refusal {
+    fn number(self) -> u32
+        ensures { result ≡ refusal_number self }
+    {
+        match self {
+            Refusal::Spoiled(why) => why.reason as u32,
+            Refusal::Undeclared(_) => 11,
+            Refusal::OverBound => 12,
+            Refusal::Short(_) => 17,
+        }
+    }
+
+    fn place(self) -> usize
+        ensures { result ≡ refusal_place self }
+    {
+        match self {
+            Refusal::Spoiled(why) => why.place,
+            Refusal::Undeclared(at) => at,
+            Refusal::OverBound => 0,
+            Refusal::Short(long) => long,
+        }
+    }
+}
+
+// The answer to a text: 0, and how long its table is; or the number and the place of a refusal. Numbers, since `OwlAt` and the call for C
+// speak of them.
 #[derive(Clone, Copy)]
 pub struct Answered {
     pub number: u32,
@@ -82,114 +108,90 @@ pub struct Answered {
 // The bytes that lines have at most.
 const LINES_ROOM: usize = (bounds::MAX_LEFT + 2) * bounds::MAX_LINES;
 
-fn narrow(n: usize) -> u8
-    requires { n ≤ 255 }
-    ensures { result ≡ n }
+// A whole table: header (the mark, the version, the counts), rows and lines.
+fn put_table(source: Source<'_>, t: Totals, passed: Passed, lines: &[u8], out: &mut [u8]) -> usize
+    ensures table { PutTable source.entry.text.now source.entry.opens t passed.lines lines.now out.old out.new result }
+    ensures room { length out.new ≡ length out.old }
 {
-    n as u8
-}
-
-fn least(a: usize, b: usize) -> usize
-    ensures { (result ≤ b) × (a ≤ b → result ≡ a) }
-{
-    if a <= b {
-        return a;
-    }
-    b
-}
-
-// The header of a table: the mark, the version, the counts.
-fn put_header(c: u8, r: u8, v: u8, e: u8, m: u8, out: &mut [u8]) -> usize
-    ensures { Appended out.old 0 (header_bytes c r v e m) out.new result }
-{
-    let bytes = [0x56, 0x4F, 0x43, 1, 0, c, r, v, e, m];
-    owl_table::put_all(&bytes, out, 0)
-}
-
-// A whole table: header, rows and lines.
-fn put_table(s: &[u8], t: Totals, m: usize, lines: &[u8], out: &mut [u8]) -> usize
-    requires { (t.constants ≤ 255) × (t.roles ≤ 255) × (t.variables ≤ 255) × (t.rows ≤ 255) × (m ≤ 255) }
-    ensures { PutTable s.now t.opens t.constants t.roles t.variables t.rows m lines.now out.old out.new result × (length out.new ≡ length out.old) }
-{
-    let rows = put_header(
-        narrow(t.constants),
-        narrow(t.roles),
-        narrow(t.variables),
-        narrow(t.rows),
-        narrow(m),
-        out,
-    );
-    let from = owl_table::put_rows(s, t.opens, out, rows);
-    owl_table::put_all(lines, out, from)
+    let header = [
+        b'V',
+        b'O',
+        b'C',
+        1,
+        0,
+        t.constants as u8,
+        t.roles as u8,
+        t.variables as u8,
+        t.rows as u8,
+        passed.lines as u8,
+    ];
+    let rows = text::put_text(&header, out, 0);
+    let from = owl_table::put_rows(source, out, rows);
+    text::put_text(lines, out, from)
 }
 
 // The table of a text that says a file and whose counts are within their bounds, where its lines were passed.
-fn finish(s: &[u8], t: Totals, passed: Passed, lines: &[u8], out: &mut [u8]) -> Answered
-    requires { Counted s.now t.constants t.roles t.opens t.variables t.rows × (passed.lines ≤ max_lines) × LinesIn s.now passed.over passed.lines passed.end lines.now }
-    ensures { TableMade s.now out.old out.new result.number result.count result.place }
+fn finish(
+    source: Source<'_>,
+    t: Totals,
+    passed: Passed,
+    lines: &[u8],
+    out: &mut [u8],
+) -> Result<usize, Refusal>
+    requires opens { source.opens ≡ opens_in source.text.now }
+    requires counted { Counted source.text.now t }
+    requires lines { LinesIn source.text.now passed lines.now }
+    ensures { TableMade source.entry.text.now out.old out.new result }
 {
-    if passed.over {
-        return Answered {
-            number: 12,
-            count: 0,
-            place: 0,
-        };
-    }
-    let end = least(passed.end, lines.len());
+    let end = passed.end.min(lines.len());
     let long = table::HEADER + 2 * t.rows + end;
     if out.len() < long {
-        return Answered {
-            number: 17,
-            count: 0,
-            place: long,
-        };
+        return Err(Refusal::Short(long));
     }
-    put_table(s, t, passed.lines, &lines[..end], out);
-    Answered {
-        number: 0,
-        count: long,
-        place: 0,
-    }
+    put_table(source, t, passed, &lines[..end], out);
+    Ok(long)
 }
 
 // The answer to a text that says a file whose names are declared.
-fn made(s: &[u8], out: &mut [u8]) -> Answered
-    ensures { TableMade s.now out.old out.new result.number result.count result.place }
+fn made(text: &[u8], out: &mut [u8]) -> Result<usize, Refusal>
+    ensures { TableMade text.now out.old out.new result }
 {
-    let t = counts(s);
-    if !t.within {
-        return Answered {
-            number: 12,
-            count: 0,
-            place: 0,
-        };
-    }
+    let t = counts(text).ok_or(Refusal::OverBound)?;
+    let source = Source {
+        text,
+        opens: t.opens,
+    };
     let mut lines = [0u8; LINES_ROOM];
-    let passed = owl_make::lines(s, t.opens, &mut lines);
-    finish(s, t, passed, &lines, out)
+    let passed = owl_make::lines(source, &mut lines).ok_or(Refusal::OverBound)?;
+    finish(source, t, passed, &lines, out)
+}
+
+// How long the table of a text is, which goes to the buffer.
+fn read(text: &[u8], out: &mut [u8]) -> Result<usize, Refusal>
+    ensures { OwlAt text.now out.old (answer_of result out.new) }
+{
+    owl_text::check(text)?;
+    let first = owl_name::first_undeclared(text);
+    if first != text.len() {
+        return Err(Refusal::Undeclared(first));
+    }
+    made(text, out)
 }
 
 // Reads an OWL text: its table goes to the buffer.
 pub fn owl(text: &[u8], out: &mut [u8]) -> Answered
     ensures { OwlAt text.now out.old (owl result.number result.count result.place out.new) }
 {
-    let checked = owl_text::check(text);
-    let number = checked.number;
-    let place = checked.place;
-    if number != 0 {
-        return Answered {
-            number,
+    match read(text, out) {
+        Ok(count) => Answered {
+            number: 0,
+            count,
+            place: 0,
+        },
+        Err(why) => Answered {
+            number: why.number(),
             count: 0,
-            place,
-        };
+            place: why.place(),
+        },
     }
-    let first = owl_name::first_undeclared(text);
-    if first != text.len() {
-        return Answered {
-            number: 11,
-            count: 0,
-            place: first,
-        };
-    }
-    made(text, out)
 }

@@ -1,13 +1,15 @@
 -- Laws of the end of a class expression.
 --
---   deeper_left, deeper_other, deeper_none, deeper_right == the code's cases
+--   deeper_left, deeper_other, deeper_right == a bracket, or another token
 --   tokens_fuel, rest_start, rest_end, rest_turn == the tokens from a byte on
 --   jumps_start, jumps_turn, jumps_first, jumps_le, end_behind == bytes behind some tokens, token by token
---   skip_on, skip_stop        == the invariant of the loop, token by token
+--   skip_nothing, skip_on, skip_stop == what is left behind, token by token
 --   skip_class, skip_classes  == brackets in a class expression are closed in it
 --   ends_name, ends_word      == where it ends
+--   name_kind, other_kind     == whether the first token is a name, by its kind
 use mathlib.Core.Path.{◌≡◌, refl, sym, ap, ap₂, subst, ◌∙◌}
-use mathlib.Core.Bool.{Bool, true, false}
+use mathlib.Core.Bool.{Bool, true, false, ◌||◌}
+use mathlib.Core.Logic.{◌⊎◌, inl, inr}
 use mathlib.Core.List.{List, [], ◌∷◌}
 use Prim.Native.Nat.{ℕ, zero, suc, ◌+◌, ◌-◌, ◌≤◌, ◌<◌}
 use native.Mathlib.Omega.{arith}
@@ -20,26 +22,26 @@ use Rattle.owl.specs.TokenLaws.{end_after}
 use Rattle.owl.specs.Written.{Token, text, kind, ‹ObjectIntersectionOf›, ‹ObjectSomeValuesFrom›, token_at, tokens_from, tokens, ‹left›, ‹right›, written, writtens}
 use Rattle.owl.specs.Grammar.{is_name}
 use Rattle.owl.specs.TextLaws.{kind_at_lem}
+use Rattle.owl_token.specs.declared.Kind.{Kind}
+use Rattle.owl_token.specs.declared.Kind.TheVariants.{Short, Full}
+use Rattle.owl_token.specs.Kind.{kind_number, kind_number_injective}
 use Rattle.owl_name.proofs.RestLaws.{goes, AtToken}
 use Rattle.owl_class.specs.Ends.{rest_tokens, deeper, skip, JumpsBy, Jumps, EndsAt}
 
 ----------------------------------------------------------------------------------------------------
 -- Depth
 
-pub deeper_left : (k depth : ℕ) → k ≡ 1 → depth + 1 ≡ deeper k depth
+deeper_left : (k depth : ℕ) → k ≡ 1 → depth + 1 ≡ deeper k depth
 unfolding deeper
 deeper_left k depth e = sym (ap (λ (b : Bool). elim b [ true ↦ depth + 1 | false ↦ elim (eqb k 2) [ true ↦ depth - 1 | false ↦ depth ] ]) (eq-eqb k 1 e))
 
-pub deeper_other : (k depth : ℕ) → (k ≡ 1 → ⊥) → (k ≡ 2 → ⊥) → depth ≡ deeper k depth
+deeper_other : (k depth : ℕ) → (k ≡ 1 → ⊥) → (k ≡ 2 → ⊥) → depth ≡ deeper k depth
 unfolding deeper
 deeper_other k depth h l = sym (ap₂ (λ (a b : Bool). elim a [ true ↦ depth + 1 | false ↦ elim b [ true ↦ depth - 1 | false ↦ depth ] ]) (ne_eqb k 1 h) (ne_eqb k 2 l))
 
-pub deeper_right : (k depth : ℕ) → (k ≡ 1 → ⊥) → k ≡ 2 → depth - 1 ≡ deeper k depth
+deeper_right : (k depth : ℕ) → (k ≡ 1 → ⊥) → k ≡ 2 → depth - 1 ≡ deeper k depth
 unfolding deeper
 deeper_right k depth h e = sym (ap₂ (λ (a b : Bool). elim a [ true ↦ depth + 1 | false ↦ elim b [ true ↦ depth - 1 | false ↦ depth ] ]) (ne_eqb k 1 h) (eq-eqb k 2 e))
-
-pub deeper_none : (k depth : ℕ) → (k ≡ 1 → ⊥) → k ≡ 2 → depth ≡ 0 → 0 ≡ deeper k depth
-deeper_none k depth h e z = (let y : 0 ≡ depth - 1 = omega arith in y) ∙ deeper_right k depth h e
 
 pub deeper_le : (k depth : ℕ) → deeper k depth ≤ depth + 1
 unfolding deeper
@@ -134,9 +136,9 @@ skip_turn s at depth k p e t h z =
     ap (skip depth) (rest_turn s at h (λ y. z (t.0 ∙ y)))
     ∙ ap₂ (λ (j : ℕ) (l : List Token). elim (eqb (deeper j depth) 0) [ true ↦ l | false ↦ skip (deeper j depth) l ]) (kind_at_lem s at ∙ sym t.0) (ap (rest_tokens s) (sym t.2))
 
-pub skip_end : (s : List ℕ) (at depth k p e : ℕ) → AtToken s at k p e → k ≡ 0 → skip depth (rest_tokens s at) ≡ rest_tokens s at
+pub skip_nothing : (s : List ℕ) (at depth : ℕ) → kind_at s at ≡ 0 → skip depth (rest_tokens s at) ≡ rest_tokens s at
 unfolding skip
-skip_end s at depth k p e t z = let y = rest_end s at (sym t.0 ∙ z) in ap (skip depth) y ∙ sym y
+skip_nothing s at depth z = let y = rest_end s at z in ap (skip depth) y ∙ sym y
 
 pub skip_stop : (s : List ℕ) (at depth k p e d : ℕ) → AtToken s at k p e → at ≤ length s → (k ≡ 0 → ⊥) → d ≡ deeper k depth → d ≡ 0 → skip depth (rest_tokens s at) ≡ rest_tokens s e
 skip_stop s at depth k p e d t h z c y =
@@ -259,3 +261,13 @@ ends_word s at k p e r t h d f y (some_values_from (full w) C) rest c =
     let j : k ≡ 12 = begins s at k p e 12 (written (some_values_from (full w) C) rest) t h c refl in
     let z : k ≡ 0 → ⊥ = λ z. omega arith in
     (f ∙ ap (skip 0) (sym ((rest_first s at k p e t h).1 z) ∙ ap behind c) ∙ some_closed (text 14 w) C rest (λ z. omega arith) (λ z. omega arith), jumps_first s at k p e r t z y)
+
+-- by the kind of the first token
+pub name_kind : (k : Kind) → (k ≡ Short) ⊎ (k ≡ Full) → is_name (kind_number k) ≡ true
+unfolding is_name
+name_kind k (inl e) = ap (λ (j : Kind). is_name (kind_number j)) e
+name_kind k (inr e) = ap (λ (j : Kind). is_name (kind_number j)) e
+
+pub other_kind : (k : Kind) → (k ≡ Short → ⊥) → (k ≡ Full → ⊥) → is_name (kind_number k) ≡ false
+unfolding is_name
+other_kind k f g = ap₂ ◌||◌ (ne_eqb (kind_number k) 13 (λ e. f (kind_number_injective k Short e))) (ne_eqb (kind_number k) 14 (λ e. g (kind_number_injective k Full e)))

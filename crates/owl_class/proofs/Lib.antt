@@ -1,6 +1,7 @@
 pub mod EndLaws
-pub mod SpreadLaws
-pub mod CountLaws
+pub mod ClosedLaws
 pub mod TurnLaws
-pub mod SeekLaws
+pub mod BracketLaws
+pub mod GiveLaws
+pub mod RunLaws
 pub mod EntryLaws

@@ -1,3 +1,4 @@
 pub mod Ends
 pub mod Conjuncts
+pub mod Spread
 pub mod EntryTheorem

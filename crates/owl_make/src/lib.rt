@@ -1,105 +1,96 @@
-// The table of a text: its lines, its rows and its header, in bytes.
+// All lines of a text's table, in bytes.
 //
 // Constructs nest without bound; there is no recursion and no stack. The axioms are passed one after the other, then the fillers that are no
 // names; the entries of a side are asked for one by one.
 #![tactic(auto)]
 
 ghost use Rattle.std.specs.Prelude.{◌≡◌, ◌≤◌, length};
-ghost use Rattle.bounds.specs.Bounds.{max_lines};
-ghost use Rattle.owl_make.specs.Lines.{opens_in, AxiomDone, FillerDone, AxiomsDone, FillersDone, LinesDone};
+ghost use Rattle.owl_axiom.specs.Axioms.{axiom_number};
+ghost use Rattle.owl_line.specs.Sides.{SideIn};
+ghost use Rattle.owl_make.specs.Lines.{opens_in, BothDone, AxiomDone, AxiomsDone, FillersDone, LinesDone};
 
-use owl_line::{Passed, Side};
+use owl_axiom::{Axiom, AxiomKind};
+use owl_line::{Passed, Side, Source};
+use owl_name::Does;
 
-// The lines of an axiom: 9 SubClassOf, any other EquivalentClasses.
-fn one_axiom(
-    s: &[u8],
-    opens: usize,
-    kind: u8,
-    left: usize,
-    right: usize,
+// The lines of one side below another, and the reverse.
+fn both_ways(
+    source: Source<'_>,
+    left: Side,
+    right: Side,
     passed: Passed,
     out: &mut [u8],
-) -> Passed
-    requires { (left ≤ length s.now) × (right ≤ length s.now) × (passed.lines ≤ max_lines) }
-    ensures { AxiomDone s.now opens kind left right passed.over passed.lines passed.end out.old result.over result.lines result.end out.new × (result.lines ≤ max_lines) × (length out.new ≡ length out.old) }
+) -> Option<Passed>
+    requires left { SideIn source.text.now left }
+    requires right { SideIn source.text.now right }
+    ensures lines { BothDone source.entry.text.now source.entry.opens left right passed out.old result out.new }
+    ensures room { length out.new ≡ length out.old }
 {
-    let less = Side {
-        fresh: false,
-        at: left,
-    };
-    let greater = Side {
-        fresh: false,
-        at: right,
-    };
-    let first = owl_line::group(s, opens, less, greater, passed, out);
-    if kind == 9 {
-        return first;
-    }
-    owl_line::group(s, opens, greater, less, first, out)
+    let first = owl_line::group(source, left, right, Some(passed), out)?;
+    owl_line::group(source, right, left, Some(first), out)
 }
 
-// The lines of a fresh variable and its filler.
-fn one_filler(s: &[u8], opens: usize, n: usize, at: usize, passed: Passed, out: &mut [u8]) -> Passed
-    requires { (at ≤ length s.now) × (passed.lines ≤ max_lines) }
-    ensures { FillerDone s.now opens n at passed.over passed.lines passed.end out.old result.over result.lines result.end out.new × (result.lines ≤ max_lines) × (length out.new ≡ length out.old) }
+// The lines of an axiom.
+fn one_axiom(source: Source<'_>, found: Axiom, passed: Passed, out: &mut [u8]) -> Option<Passed>
+    requires left { found.left ≤ length source.text.now }
+    requires right { found.right ≤ length source.text.now }
+    ensures lines { AxiomDone source.entry.text.now source.entry.opens (axiom_number found.kind) found.left found.right passed out.old result out.new }
+    ensures room { length out.new ≡ length out.old }
 {
-    let variable = Side { fresh: true, at: n };
-    let class = Side { fresh: false, at };
-    let first = owl_line::group(s, opens, variable, class, passed, out);
-    owl_line::group(s, opens, class, variable, first, out)
+    let (left, right) = (Side::Class(found.left), Side::Class(found.right));
+    match found.kind {
+        AxiomKind::SubClassOf => owl_line::group(source, left, right, Some(passed), out),
+        AxiomKind::EquivalentClasses => both_ways(source, left, right, passed, out),
+    }
+}
+
+// No lines.
+fn none() -> Passed
+    ensures lines { result.lines ≡ 0 }
+    ensures end { result.end ≡ 0 }
+{
+    Passed { lines: 0, end: 0 }
 }
 
 // The lines of all axioms.
-fn axioms(s: &[u8], opens: usize, out: &mut [u8]) -> Passed
-    ensures { AxiomsDone s.now opens out.old result.over result.lines result.end out.new × (result.lines ≤ max_lines) × (length out.new ≡ length out.old) }
+fn axioms(source: Source<'_>, out: &mut [u8]) -> Option<Passed>
+    ensures lines { AxiomsDone source.entry.text.now out.old result out.new }
+    ensures room { length out.new ≡ length out.old }
 {
-    let mut passed = Passed {
-        over: false,
-        lines: 0,
-        end: 0,
-    };
-    let mut at = owl_axiom::first_item(s);
-    loop {
-        let found = owl_axiom::next_axiom(s, at);
-        let kind = found.kind;
-        let left = found.left;
-        let right = found.right;
-        let end = found.end;
-        if kind == 0 {
-            return passed;
-        }
-        passed = one_axiom(s, opens, kind, left, right, passed, out);
-        at = end;
+    let mut passed = none();
+    let mut at = owl_axiom::first_item(source.text);
+    while let Some(found) = owl_axiom::next_axiom(source.text, at) {
+        passed = one_axiom(source, found, passed, out)?;
+        at = found.end;
     }
+    Some(passed)
 }
 
-// The lines of all fresh variables and their fillers.
-fn fillers(s: &[u8], opens: usize, before: Passed, out: &mut [u8]) -> Passed
-    requires { before.lines ≤ max_lines }
-    ensures { FillersDone s.now opens before.over before.lines before.end out.old result.over result.lines result.end out.new × (result.lines ≤ max_lines) × (length out.new ≡ length out.old) }
+// The lines of all fresh variables and their fillers. The fillers are asked for one by one, as the axioms are: only here are they gone through.
+fn fillers(source: Source<'_>, before: Passed, out: &mut [u8]) -> Option<Passed>
+    requires { source.opens ≡ opens_in source.text.now }
+    ensures lines { FillersDone source.entry.text.now before out.old result out.new }
+    ensures room { length out.new ≡ length out.old }
 {
     let mut passed = before;
-    let mut at = owl_axiom::first_item(s);
-    let mut does = 0;
+    let mut at = owl_axiom::first_item(source.text);
+    let mut does = Does::Nothing;
     let mut n = 0;
-    loop {
-        let found = owl_axiom::next_filler(s, at, does);
-        let next = found.at;
-        if !found.found {
-            return passed;
-        }
-        passed = one_filler(s, opens, n, next, passed, out);
-        does = 3;
+    while let Some(next) = owl_axiom::next_filler(source.text, at, does) {
+        passed = both_ways(source, Side::Fresh(n), Side::Class(next), passed, out)?;
+        does = Does::UsesClass;
         n += 1;
         at = next;
     }
+    Some(passed)
 }
 
-// All lines of a text's table.
-pub fn lines(s: &[u8], opens: usize, out: &mut [u8]) -> Passed
-    requires { opens ≡ opens_in s.now }
-    ensures { LinesDone s.now out.old result.over result.lines result.end out.new × (result.lines ≤ max_lines) × (length out.new ≡ length out.old) }
+// All lines of a text's table; none, where they are too many or too long.
+pub fn lines(source: Source<'_>, out: &mut [u8]) -> Option<Passed>
+    requires { source.opens ≡ opens_in source.text.now }
+    ensures lines { LinesDone source.entry.text.now out.old result out.new }
+    ensures room { length out.new ≡ length out.old }
 {
-    let first = axioms(s, opens, out);
-    fillers(s, opens, first, out)
+    let first = axioms(source, out)?;
+    fillers(source, first, out)
 }

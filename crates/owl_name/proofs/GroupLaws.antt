@@ -5,7 +5,7 @@
 --   inside_first        == a name's first declaration is the first of its group that has it
 --   constants_group, opens_group, roles_group == the names of a text, by groups
 --   known_in            == a name of a group is declared exactly if its first declaration lies in the text
---   use_thing, use_class, use_role, use_none, use_idle == whether the name of a mention is known
+--   use_thing, use_class, use_role, use_idle == whether the name of a mention is known
 use mathlib.Core.Path.{◌≡◌, refl, sym, ap, ap₂, subst, ◌∙◌}
 use mathlib.Core.Bool.{Bool, true, false, ◌&&◌, ◌||◌, not}
 use mathlib.Core.List.{List, [], ◌∷◌}
@@ -13,7 +13,6 @@ use Prim.Native.Nat.{ℕ, zero, suc, ◌+◌, ◌≤◌, ◌<◌}
 use native.Mathlib.Omega.{arith}
 use lib.Dec.{T, eqb, eqb→eq, ltb}
 use lib.ListN.{length, get_or, drop}
-use borrow.Author.Tests.{ne_eqb}
 use Rattle.el.specs.Test.{any_of}
 use Rattle.owl.specs.Once.{is_among, once}
 use Rattle.owl.specs.DistinctLaws.{among_once}
@@ -25,7 +24,7 @@ use Rattle.owl.specs.TokenLaws.{drop_cons, size_pos, place_after, place_le, end_
 use Rattle.owl.specs.Grammar.{is_name}
 use Rattle.owl.specs.Mention.{sort_after, Placed, mentioned, placed_at, placed_from, placed, mentions_of, declarations, names_in, is_known, first_place}
 use Rattle.owl.specs.UndeclaredLaws.{place_within}
-use Rattle.owl_name.specs.Declared.{declares, declared_at, group_sort, group_takes, in_group, inside, place_in, name_in}
+use Rattle.owl_name.specs.Declarations.{declares, declared_at, group_sort, group_takes, in_group, inside, place_in, name_in}
 use Rattle.owl_name.specs.Ordered.{Rising, keys, first_of}
 use Rattle.owl_name.proofs.OrderedLaws.{rising_lower, among_first}
 
@@ -200,11 +199,6 @@ use_class s does at n e t a = ap (λ (k : ℕ). ltb k (length s)) a ∙ sym (ask
 
 pub use_role : (s : List ℕ) (does at : ℕ) (n : Name) → does ≡ 4 → at ≡ declared_at s 2 n → ltb at (length s) ≡ is_known (names_in s) (mentioned does n)
 use_role s does at n e a = ap (λ (k : ℕ). ltb k (length s)) a ∙ sym (asks_role (names_in s) does n e ∙ role_known_lem s n)
-
-pub use_none : (d : Names) (does : ℕ) (n : Name) → (does ≡ 3 → ⊥) → (does ≡ 4 → ⊥) → true ≡ is_known d (mentioned does n)
-unfolding is_known
-use_none d does n h k =
-    sym (ap₂ (λ (a b : Bool). elim a [ true ↦ class_known d n | false ↦ elim b [ true ↦ role_known d n | false ↦ true ] ]) (ne_eqb does 3 h) (ne_eqb does 4 k))
 
 -- a name that does nothing uses nothing
 pub use_idle : (d : Names) (n : Name) → not (is_known d (mentioned 0 n)) ≡ false

@@ -2,7 +2,7 @@
 --
 --   number_in                                 == a name's place among those of its group, by its first declaration
 --   open_number_lem, constant_number_lem, role_number_lem == the numbers of names
---   constants_count, opens_count, roles_count == how many names there are
+--   group_count                               == how many names of a group there are
 use mathlib.Core.Path.{◌≡◌, refl, sym, ap, ap₂, ◌∙◌}
 use mathlib.Core.Bool.{Bool, true, false, ◌||◌, not}
 use mathlib.Core.List.{List, []}
@@ -13,7 +13,9 @@ use Rattle.owl.specs.Tree.{Name}
 use Rattle.owl.specs.Naming.{same_name, is_thing, is_open, constant_number, open_number, role_number}
 use Rattle.owl.specs.NamingLaws.{same_name_refl, same_name_means}
 use Rattle.owl.specs.Mention.{placed, names_in}
-use Rattle.owl_name.specs.Declared.{declared_at, group_sort, group_takes, inside, place_in, name_in, different, class_number}
+use Rattle.owl_name.specs.declared.Group.{Group}
+use Rattle.owl_name.specs.declared.Group.TheVariants.{Constants, Opens, Roles}
+use Rattle.owl_name.specs.Declarations.{group_number, group_names, declared_at, group_sort, group_takes, inside, place_in, name_in, different, class_number}
 use Rattle.owl_name.proofs.GroupLaws.{all_rising, inside_first, constants_group, opens_group, roles_group}
 use Rattle.owl_name.specs.Ordered.{keys, different_before}
 use Rattle.owl_name.proofs.OrderedLaws.{place_count, count_all}
@@ -44,11 +46,8 @@ all_in_lem : (s : List ℕ) (g : ℕ) → different s g (length s) ≡ length (o
 unfolding different
 all_in_lem s g = count_all place_in name_in same_name same_name_refl same_name_means (length s) (inside g (placed s)) (all_rising s g)
 
-pub constants_count : (s : List ℕ) → different s 0 (length s) ≡ length (names_in s).constants
-constants_count s = all_in_lem s 0 ∙ ap length (sym (constants_group s))
-
-pub opens_count : (s : List ℕ) → different s 1 (length s) ≡ length (names_in s).opens
-opens_count s = all_in_lem s 1 ∙ ap length (sym (opens_group s))
-
-pub roles_count : (s : List ℕ) → different s 2 (length s) ≡ length (names_in s).roles
-roles_count s = all_in_lem s 2 ∙ ap length (sym (roles_group s))
+pub group_count : (s : List ℕ) (g : Group) → different s (group_number g) (length s) ≡ length (group_names (names_in s) (group_number g))
+unfolding group_names
+group_count s Constants = all_in_lem s 0 ∙ ap length (sym (constants_group s))
+group_count s Opens = all_in_lem s 1 ∙ ap length (sym (opens_group s))
+group_count s Roles = all_in_lem s 2 ∙ ap length (sym (roles_group s))

@@ -22,7 +22,7 @@ use Rattle.el.specs.TestLaws.{is_true}
 use Rattle.owl.specs.Once.{is_among, place, once}
 use Rattle.owl.specs.DistinctLaws.{among_last, once_append, once_after, place_none, place_once}
 use Rattle.owl_name.specs.Ordered.{before, Rising, keys, first_of, different_before}
-use Rattle.owl_name.specs.Declared.{one_if}
+use Rattle.owl_name.specs.Declarations.{one_if}
 
 pub append_one : {A : Type 0} (l : List A) (x : A) (m : List A) → l ++ (x ∷ m) ≡ (l ++ (x ∷ [])) ++ m
 append_one [] x m = refl

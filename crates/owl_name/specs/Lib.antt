@@ -1,2 +1,3 @@
 pub mod Ordered
-pub mod Declared
+pub mod Walk
+pub mod Declarations

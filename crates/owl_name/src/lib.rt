@@ -5,314 +5,186 @@
 #![tactic(auto)]
 
 ghost use Rattle.std.specs.Prelude.{◌≡◌, true, false, ◌&&◌, not, ◌<◌, ◌≤◌, length};
-ghost use Rattle.owl.specs.Naming.{same_bytes, begins_with, same_name, is_thing, is_open, role_number};
-ghost use Rattle.owl.specs.Grammar.{is_name};
-ghost use Rattle.owl.specs.Mention.{sort_after, name_by, mentioned, names_in, is_known, undeclared};
-ghost use Rattle.owl_name.specs.Declared.{declares, declared_at, in_group, adding, different, UpTo, class_number, one_if};
+ghost use Rattle.owl.specs.Naming.{is_thing, role_number};
+ghost use Rattle.owl.specs.Mention.{mentioned, names_in, is_known, undeclared};
+ghost use Rattle.owl_name.specs.Walk.{written, does_number, passes};
+ghost use Rattle.owl_name.specs.Declarations.{declares, declared_at, group_number, group_sort, group_takes, in_group, first_in, different, Reaches, UpTo, class_number, group_names};
 
-fn wide(x: u8) -> usize
-    ensures { result ≡ x }
+mod names;
+mod walks;
+
+pub use names::{Name, name_at};
+pub use walks::{Does, Stop, Walk};
+
+// Whether a stop declares this name. Two names are compared and not two options: that takes half the time, and `declared_at` does little else.
+fn declares(stop: &Stop, sort: Does, name: Name) -> bool
+    ensures { result ≡ passes (declares (does_number sort) (written name.entry)) stop.now }
 {
-    x as usize
+    match stop.name {
+        Some(found) => stop.does == sort && found == name,
+        None => false,
+    }
 }
 
-pub fn is_name(k: u8) -> bool
-    ensures { result ≡ is_name k }
+// The byte of the first declaration of a name, as a class or as an object property; the text's length if there is none, as the definition says.
+// The loop is no `find`: its invariant speaks of where the walk is.
+pub fn declared_at(s: &[u8], sort: Does, name: Name) -> usize
+    requires { 0 < does_number sort }
+    ensures at { result ≡ declared_at s.now (does_number sort) (written name.entry) }
+    ensures within { result ≤ length s.now }
 {
-    if k == 13 {
-        return true;
-    }
-    k == 14
-}
-
-// What the next name does after a token of kind k, where it would have done q.
-pub fn sort_after(q: u8, k: u8) -> u8
-    ensures { result ≡ sort_after q k }
-{
-    if k < 4 {
-        return q;
-    }
-    if k < 13 {
-        let sorts = [0, 0, 0, 0, 0, 0, 0, 1, 2, 3, 3, 3, 4];
-        return sorts[wide(k)];
-    }
-    if q != 4 {
-        return q;
-    }
-    if is_name(k) {
-        return 3;
-    }
-    q
-}
-
-fn same_bytes(a: &[u8], b: &[u8]) -> bool
-    ensures { result ≡ same_bytes a.now b.now }
-{
-    if a.len() != b.len() {
-        return false;
-    }
-    let mut i = 0;
-    while i < a.len() {
-        if a[i] != b[i] {
-            return false;
+    for stop in Walk::new(s) {
+        if declares(&stop, sort, name) {
+            return stop.place;
         }
-        i += 1;
     }
-    true
-}
-
-fn begins_with(w: &[u8], b: &[u8]) -> bool
-    ensures { result ≡ begins_with w.now b.now }
-{
-    let mut i = 0;
-    while i < w.len() {
-        if b.len() <= i {
-            return false;
-        }
-        if w[i] != b[i] {
-            return false;
-        }
-        i += 1;
-    }
-    true
-}
-
-// Names are compared as they are written: a short one and a full one are two.
-pub fn same_name(k: u8, a: &[u8], j: u8, b: &[u8]) -> bool
-    ensures { result ≡ same_name (name_by k a.now) (name_by j b.now) }
-{
-    if k == 13 {
-        if j == 13 {
-            return same_bytes(a, b);
-        }
-        return false;
-    }
-    if j == 13 {
-        return false;
-    }
-    same_bytes(a, b)
-}
-
-pub fn is_thing(k: u8, name: &[u8]) -> bool
-    ensures { result ≡ is_thing (name_by k name.now) }
-{
-    if k != 13 {
-        return false;
-    }
-    same_bytes(name, b"owl:Thing")
-}
-
-pub fn is_open(k: u8, name: &[u8]) -> bool
-    ensures { result ≡ is_open (name_by k name.now) }
-{
-    if k != 13 {
-        return false;
-    }
-    begins_with(b":open-", name)
-}
-
-// Whether a token declares this name; `does` is what a name there does.
-fn declares(sort: u8, k: u8, name: &[u8], does: u8, j: u8, token: &[u8]) -> bool
-    ensures { result ≡ (is_name j && declares sort (name_by k name.now) (mentioned does (name_by j token.now))) }
-{
-    if does != sort {
-        return false;
-    }
-    if is_name(j) {
-        return same_name(k, name, j, token);
-    }
-    false
-}
-
-// The byte of the first declaration of a name, as a class or as an object property; the text's length if there is none.
-pub fn declared_at(s: &[u8], sort: u8, k: u8, name: &[u8]) -> usize
-    requires { 0 < sort }
-    ensures { (result ≡ declared_at s.now sort (name_by k name.now)) × (result ≤ length s.now) }
-{
-    let mut at = 0;
-    let mut does = 0;
-    loop {
-        let t = owl_token::token_at(s, at);
-        let kind = t.kind;
-        let place = t.place;
-        let end = t.end;
-        if kind == 0 {
-            return s.len();
-        }
-        if declares(sort, k, name, does, kind, &s[place..end]) {
-            return place;
-        }
-        does = sort_after(does, kind);
-        at = end;
-    }
+    s.len()
 }
 
 // Whether a name does no more than it may: the name that it uses is declared.
-fn is_known(s: &[u8], does: u8, k: u8, name: &[u8]) -> bool
-    ensures { result ≡ is_known (names_in s.now) (mentioned does (name_by k name.now)) }
+#[tactic(auto, unfolding(owl::specs::Mention::is_known))]
+fn is_known(s: &[u8], does: Does, name: Name) -> bool
+    ensures { result ≡ is_known (names_in s.now) (mentioned (does_number does) (written name.entry)) }
 {
-    if does == 3 {
-        if is_thing(k, name) {
-            return true;
-        }
-        return declared_at(s, 1, k, name) < s.len();
+    match does {
+        Does::UsesClass => name.is_thing() || declared_at(s, Does::DeclaresClass, name) < s.len(),
+        Does::UsesProperty => declared_at(s, Does::DeclaresProperty, name) < s.len(),
+        Does::Nothing | Does::DeclaresClass | Does::DeclaresProperty => true,
     }
-    if does == 4 {
-        return declared_at(s, 2, k, name) < s.len();
-    }
-    true
 }
 
-fn is_undeclared(s: &[u8], does: u8, k: u8, token: &[u8]) -> bool
-    ensures { result ≡ (is_name k && not (is_known (names_in s.now) (mentioned does (name_by k token.now)))) }
+// No `is_some_and`, here and in `is_first`: its closure would have to say again what the function ensures.
+fn is_undeclared(s: &[u8], stop: &Stop) -> bool
+    ensures { result ≡ passes (λ m. not (is_known (names_in s.now) m)) stop.now }
 {
-    if is_name(k) {
-        return !is_known(s, does, k, token);
+    match stop.name {
+        Some(name) => !is_known(s, stop.does, name),
+        None => false,
     }
-    false
 }
 
-// The byte of the first use of a name that is not declared; the text's length if there is none.
+// The byte of the first use of a name that is not declared; the text's length if there is none, as the definition says. The loop is no `find`:
+// its invariant speaks of where the walk is.
 pub fn first_undeclared(s: &[u8]) -> usize
     ensures { result ≡ undeclared s.now }
 {
-    let mut at = 0;
-    let mut does = 0;
-    loop {
-        let t = owl_token::token_at(s, at);
-        let kind = t.kind;
-        let place = t.place;
-        let end = t.end;
-        if kind == 0 {
-            return s.len();
+    for stop in Walk::new(s) {
+        if is_undeclared(s, &stop) {
+            return stop.place;
         }
-        if is_undeclared(s, does, kind, &s[place..end]) {
-            return place;
+    }
+    s.len()
+}
+
+// The groups of declared names. owl:Thing is in none.
+#[derive(Clone, Copy, PartialEq, Eq)]
+pub enum Group {
+    Constants,
+    Opens,
+    Roles,
+}
+
+impl Group {
+    // What a declaration of a name of the group does.
+    #[tactic(auto, unfolding(crate::specs::Declarations::group_sort))]
+    fn sort(self) -> Does
+        ensures { does_number result ≡ group_sort (group_number self) }
+    {
+        match self {
+            Group::Constants | Group::Opens => Does::DeclaresClass,
+            Group::Roles => Does::DeclaresProperty,
         }
-        does = sort_after(does, kind);
-        at = end;
+    }
+
+    // Whether a name that is declared so is one of the group.
+    #[tactic(auto, unfolding(crate::specs::Declarations::group_takes))]
+    fn takes(self, name: Name) -> bool
+        ensures { result ≡ group_takes (group_number self) (written name.entry) }
+    {
+        match self {
+            Group::Constants => !name.is_thing() && !name.is_open(), // owl:Thing has no number
+            Group::Opens => name.is_open(),
+            Group::Roles => true,
+        }
+    }
+
+    // Whether a name that does this is a declaration of one of the group.
+    #[tactic(auto, unfolding(crate::specs::Declarations::in_group))]
+    fn has(self, does: Does, name: Name) -> bool
+        ensures { result ≡ in_group (group_number self) (mentioned (does_number does) (written name.entry)) }
+    {
+        does == self.sort() && self.takes(name)
     }
 }
 
-// Whether a declaration is one of a name of the group: 0 constants, 1 open names, 2 roles. owl:Thing is in none.
-fn in_group(group: u8, does: u8, k: u8, name: &[u8]) -> bool
-    ensures { result ≡ in_group group (mentioned does (name_by k name.now)) }
+// Whether a token is the first declaration of a name of the group.
+pub fn is_first(s: &[u8], group: Group, stop: &Stop) -> bool
+    ensures { result ≡ passes (first_in s.now (group_number group) stop.now.place) stop.now }
 {
-    if group == 2 {
-        return does == 2;
+    match stop.name {
+        Some(name) => {
+            group.has(stop.does, name) && declared_at(s, stop.does, name) == stop.place
+        }
+        None => false,
     }
-    if does != 1 {
-        return false;
-    }
-    if group == 1 {
-        return is_open(k, name);
-    }
-    if is_thing(k, name) {
-        return false; // owl:Thing has no number
-    }
-    !is_open(k, name)
 }
 
-// 1 if a token is the first declaration of a name of the group, else 0.
-fn adds(s: &[u8], group: u8, does: u8, place: usize, k: u8, token: &[u8]) -> usize
-    ensures { (result ≡ one_if (adding s.now group does place k (name_by k token.now))) × (result ≤ 1) }
+// How many different names of the group are declared before a byte. Where there are more than `most`, the count goes no further. The loop is no
+// chain of `take_while`, `filter` and `count`: the walk ends by the place of a stop or by the count so far.
+fn count_until(s: &[u8], group: Group, limit: usize, most: usize) -> usize
+    ensures { Reaches s.now (group_number group) limit most result }
 {
-    if !is_name(k) {
-        return 0;
-    }
-    if !in_group(group, does, k, token) {
-        return 0;
-    }
-    if declared_at(s, does, k, token) == place {
-        return 1;
-    }
-    0
-}
-
-// How many different names of the group are declared before a byte.
-fn different(s: &[u8], group: u8, limit: usize) -> usize
-    ensures { result ≡ different s.now group limit }
-{
-    let mut at = 0;
-    let mut does = 0;
     let mut count = 0;
-    loop {
-        let t = owl_token::token_at(s, at);
-        let kind = t.kind;
-        let place = t.place;
-        let end = t.end;
-        if kind == 0 {
-            return count;
+    for stop in Walk::new(s) {
+        if limit <= stop.place || most < count {
+            break;
         }
-        if limit <= place {
-            return count;
-        }
-        count += adds(s, group, does, place, kind, &s[place..end]);
-        does = sort_after(does, kind);
-        at = end;
+        count += usize::from(is_first(s, group, &stop));
     }
+    count
 }
 
-// How many different names of the group are declared: 0 constants, 1 open names, 2 roles. Where there are more than `most`, the count goes no
-// further.
-pub fn up_to(s: &[u8], group: u8, most: usize) -> usize
-    ensures { UpTo s.now group most result }
+// How many different names of the group are declared before a byte. No text has `usize::MAX` names, so that the count is whole.
+fn different(s: &[u8], group: Group, limit: usize) -> usize
+    ensures { result ≡ different s.now (group_number group) limit }
 {
-    let mut at = 0;
-    let mut does = 0;
-    let mut count = 0;
-    loop {
-        let t = owl_token::token_at(s, at);
-        let kind = t.kind;
-        let place = t.place;
-        let end = t.end;
-        if most < count {
-            return count;
-        }
-        if kind == 0 {
-            return count;
-        }
-        count += adds(s, group, does, place, kind, &s[place..end]);
-        does = sort_after(does, kind);
-        at = end;
-    }
+    count_until(s, group, limit, usize::MAX)
+}
+
+// How many different names of the group are declared. Where there are more than `most`, the count goes no further.
+pub fn up_to(s: &[u8], group: Group, most: usize) -> usize
+    ensures { UpTo s.now (group_number group) most result }
+{
+    count_until(s, group, s.len(), most)
 }
 
 // The number of a class name: how many names of its group are declared before it.
-pub fn class_number(s: &[u8], k: u8, name: &[u8]) -> usize
-    requires { is_thing (name_by k name.now) ≡ false }
-    ensures { result ≡ class_number (names_in s.now) (name_by k name.now) }
+pub fn class_number(s: &[u8], name: Name) -> usize
+    requires { is_thing (written name) ≡ false }
+    ensures { result ≡ class_number (names_in s.now) (written name.entry) }
 {
-    let first = declared_at(s, 1, k, name);
-    if is_open(k, name) {
-        return different(s, 1, first);
-    }
-    different(s, 0, first)
+    let group = if name.is_open() {
+        Group::Opens
+    } else {
+        Group::Constants
+    };
+    different(s, group, declared_at(s, Does::DeclaresClass, name))
 }
 
 // The number of an object property.
-pub fn role_number(s: &[u8], k: u8, name: &[u8]) -> usize
-    ensures { result ≡ role_number (names_in s.now) (name_by k name.now) }
+pub fn role_number(s: &[u8], name: Name) -> usize
+    ensures { result ≡ role_number (names_in s.now) (written name.entry) }
 {
-    let first = declared_at(s, 2, k, name);
-    different(s, 2, first)
+    different(
+        s,
+        Group::Roles,
+        declared_at(s, Does::DeclaresProperty, name),
+    )
 }
 
-// How many constants, open names and roles a text declares.
-pub fn constants(s: &[u8]) -> usize
-    ensures { result ≡ length (names_in s.now).constants }
+// How many names of the group a text declares.
+pub fn count(s: &[u8], group: Group) -> usize
+    ensures { result ≡ length (group_names (names_in s.now) (group_number group)) }
 {
-    different(s, 0, s.len())
-}
-
-pub fn opens(s: &[u8]) -> usize
-    ensures { result ≡ length (names_in s.now).opens }
-{
-    different(s, 1, s.len())
-}
-
-pub fn roles(s: &[u8]) -> usize
-    ensures { result ≡ length (names_in s.now).roles }
-{
-    different(s, 2, s.len())
+    different(s, group, s.len())
 }

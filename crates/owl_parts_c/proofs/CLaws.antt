@@ -1,50 +1,28 @@
--- Laws of the calls for C.
+-- A name by its first byte.
 --
---   kind_none, kind_full, kind_short == a name's kind by its first byte
---   class_none, class_some           == owl:Thing has no number, another name has its own
---   role_some                        == an object property has its own
---   three, two                       == numbers, one by one
-use mathlib.Core.Path.{◌≡◌, refl, sym, ap, ap₂, ◌∙◌}
-use mathlib.Core.Bool.{Bool, true, false}
-use mathlib.Core.List.{List, [], ◌∷◌}
-use Prim.Native.Nat.{ℕ, suc}
-use native.Mathlib.Omega.{arith}
-use lib.ListN.{length, get_or}
-use borrow.Author.Tests.{eq-eqb, ne_eqb}
-use Rattle.owl.specs.Naming.{Names, is_thing, role_number}
+--   full_by, short_by == it is a full one, or a short one
+use Rattle.std.specs.Prelude.{◌≡◌, Bool, true, false, ◌&&◌, List, [], ◌∷◌, ℕ, eqb, get_or}
+use Rattle.std.proofs.Common.{refl, sym, ap, ◌∙◌, arith}
+use Rattle.std.specs.List.{starts_with}
+use Rattle.owl.specs.Tree.{short, full}
 use Rattle.owl.specs.Mention.{name_by}
-use Rattle.owl_name.specs.Declared.{class_number}
-use Rattle.owl_parts_c.specs.C.{kind_by, class_or_none}
+use Rattle.owl_parts_c.specs.C.{kind_by}
 
-pub kind_none : (w : List ℕ) → length w ≡ 0 → 13 ≡ kind_by w
-unfolding kind_by
-kind_none [] e = refl
-kind_none (b ∷ w) e = absurd (let z : suc (length w) ≡ 0 = e in let y : ⊥ = omega arith in y)
+first_is : (w : List ℕ) → starts_with eqb w (60 ∷ []) ≡ eqb (get_or w 0 0) 60
+first_is [] = refl
+first_is (b ∷ w) = both (eqb 60 b) ∙ turned 60 b
+  where
+    both : (x : Bool) → (x && true) ≡ x
+    both true = refl
+    both false = refl
 
-pub kind_full : (w : List ℕ) → get_or w 0 0 ≡ 60 → 14 ≡ kind_by w
-unfolding kind_by
-kind_full w e = sym (ap (λ (b : Bool). elim b [ true ↦ 14 | false ↦ 13 ]) (eq-eqb (get_or w 0 0) 60 e))
+    turned : (a b : ℕ) → eqb a b ≡ eqb b a
+    turned a b = grind arith
 
-pub kind_short : (w : List ℕ) → (get_or w 0 0 ≡ 60 → ⊥) → 13 ≡ kind_by w
-unfolding kind_by
-kind_short w h = sym (ap (λ (b : Bool). elim b [ true ↦ 14 | false ↦ 13 ]) (ne_eqb (get_or w 0 0) 60 h))
+pub full_by : (w : List ℕ) → starts_with eqb w (60 ∷ []) ≡ true → full w ≡ name_by (kind_by w) w
+unfolding kind_by name_by
+full_by w e = sym (ap (λ (b : Bool). name_by (elim b [ true ↦ 14 | false ↦ 13 ]) w) (sym (first_is w) ∙ e))
 
-pub class_none : (d : Names) (k : ℕ) (w : List ℕ) → k ≡ kind_by w → is_thing (name_by k w) ≡ true → 0 ≡ class_or_none d (name_by (kind_by w) w)
-unfolding class_or_none
-class_none d k w e t =
-    sym (ap (λ (b : Bool). elim b [ true ↦ 0 | false ↦ class_number d (name_by (kind_by w) w) ]) (ap (λ (j : ℕ). is_thing (name_by j w)) (sym e) ∙ t))
-
-pub class_some : (d : Names) (k : ℕ) (w : List ℕ) → k ≡ kind_by w → is_thing (name_by k w) ≡ false → class_number d (name_by k w) ≡ class_or_none d (name_by (kind_by w) w)
-unfolding class_or_none
-class_some d k w e t =
-    ap (λ (j : ℕ). class_number d (name_by j w)) e
-    ∙ sym (ap (λ (b : Bool). elim b [ true ↦ 0 | false ↦ class_number d (name_by (kind_by w) w) ]) (ap (λ (j : ℕ). is_thing (name_by j w)) (sym e) ∙ t))
-
-pub role_some : (d : Names) (k : ℕ) (w : List ℕ) → k ≡ kind_by w → role_number d (name_by k w) ≡ role_number d (name_by (kind_by w) w)
-role_some d k w e = ap (λ (j : ℕ). role_number d (name_by j w)) e
-
-pub three : (a b c x y z : ℕ) → a ≡ x → b ≡ y → c ≡ z → a ∷ b ∷ c ∷ [] ≡ x ∷ y ∷ z ∷ []
-three a b c x y z d e f = ap₂ (λ (i j : ℕ). i ∷ j ∷ c ∷ []) d e ∙ ap (λ (k : ℕ). x ∷ y ∷ k ∷ []) f
-
-pub two : (a b x y : ℕ) → a ≡ x → b ≡ y → a ∷ b ∷ [] ≡ x ∷ y ∷ []
-two a b x y d e = ap₂ (λ (i j : ℕ). i ∷ j ∷ []) d e
+pub short_by : (w : List ℕ) → starts_with eqb w (60 ∷ []) ≡ false → short w ≡ name_by (kind_by w) w
+unfolding kind_by name_by
+short_by w e = sym (ap (λ (b : Bool). name_by (elim b [ true ↦ 14 | false ↦ 13 ]) w) (sym (first_is w) ∙ e))

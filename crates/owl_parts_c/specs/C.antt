@@ -12,7 +12,7 @@ use Rattle.owl.specs.Naming.{Names, is_thing}
 use Rattle.owl.specs.Mention.{names_in}
 use Rattle.owl.specs.Once.{once}
 use Rattle.owl.specs.Restriction.{standing, restrictions_of, owns_of, same_restriction}
-use Rattle.owl_name.specs.Declared.{class_number}
+use Rattle.owl_name.specs.Declarations.{class_number}
 use Rattle.owl_row.specs.Rows.{IsFiller}
 use Rattle.owl_class.specs.Conjuncts.{EntryIs}
 

@@ -6,6 +6,7 @@
 --   Numbered n l    == the fillers of l that are no names have the numbers from n on
 --   fresh_own       == a restriction whose filler is no name stands nowhere before
 --   fresh_number    == the number of a filler that is no name is how many of these came before it
+--   standing_named  == the role of a restriction is a name
 --   same_restriction_refl, same_restriction_means == the test says that they are equal
 use mathlib.Core.Path.{◌≡◌, refl, sym, ap, ap₂, subst, ◌∙◌}
 use mathlib.Core.Bool.{Bool, true, false, ◌&&◌, ◌||◌}
@@ -13,14 +14,14 @@ use mathlib.Core.List.{List, [], ◌∷◌, ◌++◌}
 use Prim.Native.Nat.{ℕ, zero, suc, ◌+◌, ◌-◌, ◌≤◌, ◌<◌}
 use native.Mathlib.Omega.{arith}
 use lib.Dec.{T, eqb, eqb→eq, eqb_refl}
-use lib.ListN.{length}
+use lib.ListN.{length, drop}
 use borrow.Author.Tests.{eq-eqb, ne_eqb}
 use Rattle.el.specs.Test.{any_of}
 use Rattle.el.specs.TestLaws.{and_make, and_left, and_right}
 use Rattle.owl.specs.Once.{is_among}
 use Rattle.owl.specs.Naming.{same_name}
 use Rattle.owl.specs.NamingLaws.{same_name_refl, same_name_means}
-use Rattle.owl.specs.Token.{place_at, kind_at, end_at}
+use Rattle.owl.specs.Token.{kind_of, place_at, kind_at, end_at}
 use Rattle.owl.specs.TokenLaws.{place_le, end_le}
 use Rattle.owl.specs.Grammar.{is_name}
 use Rattle.owl.specs.Mention.{sort_after, name_at}
@@ -215,3 +216,34 @@ unfolding standing
 fresh_number s k pre post x d e =
     let z : k ≡ 0 + owns_of (restrictions_of pre) = numbered_behind 0 k pre post x e (subst (Numbered 0) d (standing_numbered s (suc (length s)) 0 0 0)) in
     omega arith
+
+----------------------------------------------------------------------------------------------------
+-- Roles are names
+
+abbrev AllNamed : List ℕ → List Standing → Type 0
+AllNamed s [] = Unit {0}
+AllNamed s (x ∷ l) = (is_name (kind_of (drop x.place s)) ≡ true) × AllNamed s l
+
+standing_names : (s : List ℕ) (f at q n : ℕ) → AllNamed s (standing_from s f at q n)
+unfolding standing_from kind_at
+standing_names s zero at q n = tt
+standing_names s (suc f) at q n =
+    go (eqb (kind_at s at) 0) (is_name (kind_at s at)) (eqb q 4) refl (λ m. standing_names s f (end_at s at) (sort_after q (kind_at s at)) m)
+  where
+    rest : ℕ → List Standing
+    rest m = standing_from s f (end_at s at) (sort_after q (kind_at s at)) m
+
+    go : (b c d : Bool) → is_name (kind_at s at) ≡ c → ((m : ℕ) → AllNamed s (rest m)) →
+        AllNamed s (elim b [ true ↦ [] | false ↦ elim (c && d) [ true ↦ standing_at s at n ∷ rest (n + own_at s (end_at s at)) | false ↦ rest n ] ])
+    go true c d e ih = tt
+    go false true true e ih = (e, ih (n + own_at s (end_at s at)))
+    go false true false e ih = ih n
+    go false false d e ih = ih n
+
+named_behind : (s : List ℕ) (pre post : List Standing) (x : Standing) → AllNamed s (pre ++ (x ∷ post)) → is_name (kind_of (drop x.place s)) ≡ true
+named_behind s [] post x h = h.0
+named_behind s (y ∷ pre) post x h = named_behind s pre post x h.1
+
+pub standing_named : (s : List ℕ) (at n : ℕ) (pre post : List Standing) → standing s ≡ pre ++ (standing_at s at n ∷ post) → is_name (kind_at s at) ≡ true
+unfolding standing kind_at
+standing_named s at n pre post d = named_behind s pre post (standing_at s at n) (subst (AllNamed s) d (standing_names s (suc (length s)) 0 0 0))

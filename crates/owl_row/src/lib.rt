@@ -7,128 +7,69 @@
 
 ghost use Rattle.std.specs.Prelude.{◌≡◌, [], ◌≤◌, length};
 ghost use Rattle.owl.specs.Once.{once};
-ghost use Rattle.owl.specs.Mention.{name_by};
 ghost use Rattle.owl.specs.Restriction.{by_name, restricted, standing, restrictions_of, owns_of, same_restriction};
-ghost use Rattle.owl_name.specs.Declared.{one_if};
-ghost use Rattle.owl_row.specs.Rows.{first_row, different_rows, named_at, alike_at, adds_row, own_here, fresh_before, IsNumber, IsFiller};
+ghost use Rattle.owl_name.specs.Walk.{written, passes};
+ghost use Rattle.owl_row.specs.Rows.{first_row, different_rows, alike_in, row_in, own_in, fresh_before, filler_kind, filler_number, IsNumber, IsFiller};
 
-// A filler: 0 top, 1 a constant, 2 an open name, 3 a fresh variable, each but top with its number among its kind.
-#[derive(Clone, Copy)]
-pub struct Filling {
-    pub kind: u8,
-    pub number: usize,
+use owl_name::{Name, Stop, Walk};
+
+// A filler of a row, each but top with its number among its kind.
+#[derive(Clone, Copy, PartialEq, Eq)]
+pub enum Filler {
+    Top,
+    Constant(usize),
+    Open(usize),
+    Fresh(usize),
 }
 
-// Whether the next token is this name.
-fn named_at(s: &[u8], at: usize, k: u8, name: &[u8]) -> bool
-    requires { at ≤ length s.now }
-    ensures { result ≡ named_at s.now at (name_by k name.now) }
+// Whether a token is the role of a restriction with this role and this name for a filler.
+fn alike(s: &[u8], stop: &Stop, role: Name, filler: Name) -> bool
+    requires { stop.now.end ≤ length s.now }
+    ensures { result ≡ passes (alike_in s.now (written role.entry) (written filler.entry) stop.now.end) stop.now }
 {
-    let t = owl_token::token_at(s, at);
-    let kind = t.kind;
-    let place = t.place;
-    let end = t.end;
-    if !owl_name::is_name(kind) {
-        return false;
-    }
-    owl_name::same_name(k, name, kind, &s[place..end])
+    stop.role() == Some(role) && owl_name::name_at(s, stop.end) == Some(filler)
 }
 
-// Whether a token is the role of a restriction with this role and this name for a filler; `does` is what a name there does.
-fn alike(
-    s: &[u8],
-    k: u8,
-    role: &[u8],
-    j: u8,
-    filler: &[u8],
-    does: u8,
-    kind: u8,
-    token: &[u8],
-    end: usize,
-) -> bool
-    requires { end ≤ length s.now }
-    ensures { result ≡ alike_at s.now (name_by k role.now) (name_by j filler.now) does kind (name_by kind token.now) end }
+// The byte of the first restriction with this role and this name for a filler; the text's length if there is none, as the definition says. The
+// loop is no `find`: its invariant speaks of where the walk is.
+pub fn first_row(s: &[u8], role: Name, filler: Name) -> usize
+    ensures { result ≡ first_row s.now (restricted (written role.entry) (by_name (written filler.entry))) }
 {
-    if does != 4 {
-        return false;
-    }
-    if !owl_name::is_name(kind) {
-        return false;
-    }
-    if !owl_name::same_name(k, role, kind, token) {
-        return false;
-    }
-    named_at(s, end, j, filler)
-}
-
-// The byte of the first restriction with this role and this name for a filler; the text's length if there is none.
-pub fn first_row(s: &[u8], k: u8, role: &[u8], j: u8, filler: &[u8]) -> usize
-    ensures { result ≡ first_row s.now (restricted (name_by k role.now) (by_name (name_by j filler.now))) }
-{
-    let mut at = 0;
-    let mut does = 0;
-    loop {
-        let t = owl_token::token_at(s, at);
-        let kind = t.kind;
-        let place = t.place;
-        let end = t.end;
-        if kind == 0 {
-            return s.len();
+    for stop in Walk::new(s) {
+        if alike(s, &stop, role, filler) {
+            return stop.place;
         }
-        if alike(s, k, role, j, filler, does, kind, &s[place..end], end) {
-            return place;
-        }
-        does = owl_name::sort_after(does, kind);
-        at = end;
     }
+    s.len()
 }
 
-// 1 if a token is the role of a restriction whose row stands nowhere before it, else 0.
-pub fn adds(s: &[u8], does: u8, place: usize, kind: u8, token: &[u8], end: usize) -> usize
-    requires { end ≤ length s.now }
-    ensures { (result ≡ one_if (adds_row s.now does place kind (name_by kind token.now) end)) × (result ≤ 1) }
+// Whether a token is the role of a restriction whose row stands nowhere before it.
+pub fn adds(s: &[u8], stop: &Stop) -> bool
+    requires { stop.now.end ≤ length s.now }
+    ensures { result ≡ passes (row_in s.now stop.now.place stop.now.end) stop.now }
 {
-    if does != 4 {
-        return 0;
+    let Some(role) = stop.role() else {
+        return false;
+    };
+    match owl_name::name_at(s, stop.end) {
+        Some(filler) => first_row(s, role, filler) == stop.place,
+        None => true,
     }
-    if !owl_name::is_name(kind) {
-        return 0;
-    }
-    let t = owl_token::token_at(s, end);
-    let j = t.kind;
-    let from = t.place;
-    let to = t.end;
-    if !owl_name::is_name(j) {
-        return 1;
-    }
-    if first_row(s, kind, token, j, &s[from..to]) == place {
-        return 1;
-    }
-    0
 }
 
-// How many different rows the restrictions before a byte have.
+// How many different rows the restrictions before a byte have. The loop is no chain of `take_while`, `filter` and `count`: its invariant speaks of
+// where the walk is.
 fn different(s: &[u8], limit: usize) -> usize
     ensures { result ≡ different_rows s.now limit }
 {
-    let mut at = 0;
-    let mut does = 0;
     let mut count = 0;
-    loop {
-        let t = owl_token::token_at(s, at);
-        let kind = t.kind;
-        let place = t.place;
-        let end = t.end;
-        if kind == 0 {
-            return count;
+    for stop in Walk::new(s) {
+        if limit <= stop.place {
+            break;
         }
-        if limit <= place {
-            return count;
-        }
-        count += adds(s, does, place, kind, &s[place..end], end);
-        does = owl_name::sort_after(does, kind);
-        at = end;
+        count += usize::from(adds(s, &stop));
     }
+    count
 }
 
 // How many rows a text's table has.
@@ -143,61 +84,38 @@ pub fn row_number(s: &[u8], at: usize) -> usize
     requires { at ≤ length s.now }
     ensures { IsNumber s.now at result }
 {
-    let t = owl_token::token_at(s, at);
-    let kind = t.kind;
-    let place = t.place;
-    let end = t.end;
-    let u = owl_token::token_at(s, end);
-    let j = u.kind;
-    let from = u.place;
-    let to = u.end;
-    if !owl_name::is_name(j) {
-        return different(s, place);
-    }
-    let first = first_row(s, kind, &s[place..end], j, &s[from..to]);
+    let token = owl_token::token_at(s, at);
+    let first = match (
+        Name::of(token.kind, &s[token.place..token.end]),
+        owl_name::name_at(s, token.end),
+    ) {
+        (Some(role), Some(filler)) => first_row(s, role, filler),
+        _ => token.place,
+    };
     different(s, first)
 }
 
-// 1 if a token is the role of a restriction whose filler is no name, else 0.
-pub fn own_here(s: &[u8], does: u8, kind: u8, end: usize) -> usize
-    requires { end ≤ length s.now }
-    ensures { (result ≡ one_if (own_here s.now does kind end)) × (result ≤ 1) }
+// Whether a token is the role of a restriction whose filler is no name.
+pub fn own_here(s: &[u8], stop: &Stop) -> bool
+    requires { stop.now.end ≤ length s.now }
+    ensures { result ≡ passes (own_in s.now stop.now.end) stop.now }
 {
-    if does != 4 {
-        return 0;
-    }
-    if !owl_name::is_name(kind) {
-        return 0;
-    }
-    let t = owl_token::token_at(s, end);
-    if owl_name::is_name(t.kind) {
-        return 0;
-    }
-    1
+    stop.role().is_some() && owl_name::name_at(s, stop.end).is_none()
 }
 
-// How many restrictions before a byte have a filler that is no name.
+// How many restrictions before a byte have a filler that is no name. The loop of `different` with another test: taking the test as a closure is
+// no plainer, since a contract for both would speak of the closure's answer at each stop.
 fn fresh_before(s: &[u8], limit: usize) -> usize
     ensures { result ≡ fresh_before s.now limit }
 {
-    let mut at = 0;
-    let mut does = 0;
     let mut count = 0;
-    loop {
-        let t = owl_token::token_at(s, at);
-        let kind = t.kind;
-        let place = t.place;
-        let end = t.end;
-        if kind == 0 {
-            return count;
+    for stop in Walk::new(s) {
+        if limit <= stop.place {
+            break;
         }
-        if limit <= place {
-            return count;
-        }
-        count += own_here(s, does, kind, end);
-        does = owl_name::sort_after(does, kind);
-        at = end;
+        count += usize::from(own_here(s, &stop));
     }
+    count
 }
 
 // How many fresh variables a text's table has: one for each filler that is no name.
@@ -208,27 +126,15 @@ pub fn fresh(s: &[u8]) -> usize
 }
 
 // The filler of the restriction whose role is the next token after a byte.
-pub fn filler_of(s: &[u8], at: usize) -> Filling
+pub fn filler_of(s: &[u8], at: usize) -> Filler
     requires { at ≤ length s.now }
-    ensures { IsFiller s.now at result.kind result.number }
+    ensures { IsFiller s.now at (filler_kind result) (filler_number result) }
 {
-    let t = owl_token::token_at(s, at);
-    let place = t.place;
-    let end = t.end;
-    let u = owl_token::token_at(s, end);
-    let j = u.kind;
-    let from = u.place;
-    let to = u.end;
-    if !owl_name::is_name(j) {
-        let number = fresh_before(s, place);
-        return Filling { kind: 3, number };
+    let role = owl_token::token_at(s, at);
+    match owl_name::name_at(s, role.end) {
+        None => Filler::Fresh(fresh_before(s, role.place)),
+        Some(name) if name.is_thing() => Filler::Top,
+        Some(name) if name.is_open() => Filler::Open(owl_name::class_number(s, name)),
+        Some(name) => Filler::Constant(owl_name::class_number(s, name)),
     }
-    if owl_name::is_thing(j, &s[from..to]) {
-        return Filling { kind: 0, number: 0 };
-    }
-    let number = owl_name::class_number(s, j, &s[from..to]);
-    if owl_name::is_open(j, &s[from..to]) {
-        return Filling { kind: 2, number };
-    }
-    Filling { kind: 1, number }
 }

@@ -1,36 +1,37 @@
 -- What the places of the names of a group are worth.
 --
---   span_said == a name is the text between its two places
+--   span_said == a name is the text at its place
 --   spans_of  == where there is room for all of them, they are the names of the group
-use Rattle.std.specs.Prelude.{◌≡◌, List, ℕ, ◌+◌, ◌*◌, ◌-◌, ◌≤◌, ◌<◌, length, take, drop}
-use Rattle.std.proofs.Common.{ap, ap₂, ◌∙◌, arith, get_or-take, length-take-le, lt-ltb}
+use Rattle.std.specs.Prelude.{◌≡◌, List, ℕ, ◌-◌, ◌≤◌, ◌<◌, length, take, drop}
+use Rattle.std.proofs.Common.{sym, subst, ◌∙◌, arith, get_or-take, length-take-le, lt-ltb}
 use Rattle.owl.specs.Tree.{Name}
 use Rattle.owl.specs.Mention.{names_in}
+use Rattle.spell.specs.declared.Span.{Span}
 use Rattle.spell.specs.Spelling.{name_of}
-use Rattle.spell.specs.Given.{span_from, span_to, span_text, Inside, SpansOf}
-use Rattle.owl_span.specs.Span.{group_names, SpanAt, SpansDone}
+use Rattle.spell.specs.Given.{span_at, span_text, SpansOf}
+use Rattle.owl_name.specs.Declarations.{group_names}
+use Rattle.owl_span.specs.Span.{SpanAt, SpansDone}
 
-pub span_said : (s : List ℕ) (l : List Name) (spans : List ℕ) (k : ℕ) → 2 * k + 1 < length spans → SpanAt s l spans k → span_text s spans k ≡ name_of l k
+pub span_said : (s : List ℕ) (l : List Name) (spans : List Span) (k : ℕ) → k < length spans → SpanAt s l spans k → span_text s spans k ≡ name_of l k
 unfolding span_text
-span_said s l spans k h x = rw (lt-ltb (2 * k + 1) (length spans) h, span_text) x.bytes
+span_said s l spans k h x = rw (lt-ltb k (length spans) h, span_text) x.bytes
 
-pub spans_of : (s : List ℕ) (g : ℕ) (spans : List ℕ) (r : ℕ) → SpansDone s g spans r → 2 * r ≤ length spans → SpansOf s (group_names (names_in s) g) (take (2 * r) spans)
-unfolding SpansDone Inside
+-- where a name stands may be told by another list that has it
+pub span_moved : (s : List ℕ) (l : List Name) (spans spans' : List Span) (k : ℕ) → span_at spans' k ≡ span_at spans k → SpanAt s l spans k → SpanAt s l spans' k
+span_moved s l spans spans' k e x =
+    let P : Span → Type 0 = λ y. (y.from ≤ y.to) × (y.to ≤ length s) × (take (y.to - y.from) (drop y.from s) ≡ name_of l k) in
+    let z = subst P (sym e) (x.order, x.inside, x.bytes) in record { order = z.0; inside = z.1; bytes = z.2 }
+
+pub spans_of : (s : List ℕ) (g : ℕ) (spans : List Span) (r : ℕ) → SpansDone s g spans r → r ≤ length spans → SpansOf s (group_names (names_in s) g) (take r spans)
+unfolding SpansDone
 spans_of s g spans r d room = record {
-  many = long ∙ ap (λ (n : ℕ). 2 * n) d.0;
-  inside = λ k h. (let x = at k (let n : length (take (2 * r) spans) ≡ 2 * r = long in omega arith) in (x.order, x.inside));
-  said = λ k h. (let m : r ≡ length (group_names (names_in s) g) = d.0 in let n : length (take (2 * r) spans) ≡ 2 * r = long in span_said s (group_names (names_in s) g) (take (2 * r) spans) k (omega arith) (at k (omega arith)));
+  many = long ∙ d.0;
+  inside = λ k h. (let x = at k (omega (arith, long)) in (x.order, x.inside));
+  said = λ k h. span_said s (group_names (names_in s) g) (take r spans) k (omega (arith, long, d.0)) (at k (omega (arith, d.0)));
 }
   where
-    long : length (take (2 * r) spans) ≡ 2 * r
-    long = length-take-le (2 * r) spans room
+    long : length (take r spans) ≡ r
+    long = length-take-le r spans room
 
-    at : (k : ℕ) → k < r → SpanAt s (group_names (names_in s) g) (take (2 * r) spans) k
-    at k h =
-        let x = d.1 k h (omega arith) in
-        let from : span_from (take (2 * r) spans) k ≡ span_from spans k = get_or-take (2 * r) spans (2 * k) 0 (omega arith) in
-        let to : span_to (take (2 * r) spans) k ≡ span_to spans k = get_or-take (2 * r) spans (2 * k + 1) 0 (omega arith) in record {
-          order = (let o = x.order in omega arith);
-          inside = (let o = x.inside in omega arith);
-          bytes = ap₂ (λ (i j : ℕ). take (j - i) (drop i s)) from to ∙ x.bytes;
-        }
+    at : (k : ℕ) → k < r → SpanAt s (group_names (names_in s) g) (take r spans) k
+    at k h = span_moved s (group_names (names_in s) g) spans (take r spans) k (get_or-take r spans k _ h) (d.1 k h (omega arith))

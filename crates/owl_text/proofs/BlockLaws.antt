@@ -1,24 +1,18 @@
 -- A block of levels in an array of 4,096.
 --
---   put                  == what is stored for one level is the state of every level of the block
+--   stored, left_out, left_same == the states of the block's levels, but for one
 --   Reading              == the loop of `read`: n tokens were read, the array has the states of the block, and no token in it stopped
 --   reading_turn         == one token more
 --   found_..             == what `read` hands back
-use mathlib.Core.Path.{◌≡◌, refl, sym, ap, ap₂, subst, ◌∙◌}
-use mathlib.Core.Bool.{Bool, true, false, ◌&&◌, ◌||◌, true≢false}
-use mathlib.Core.Logic.{◌⊎◌, inl, inr}
-use mathlib.Core.List.{List, [], ◌∷◌}
-use Prim.Native.Nat.{ℕ, zero, suc, ◌+◌, ◌-◌, ◌%◌, ◌/◌, ◌≤◌, ◌<◌}
-use native.Mathlib.Omega.{arith}
+use Rattle.std.proofs.Common.{◌≡◌, refl, sym, ap, ap₂, subst, ◌∙◌, Bool, true, false, ◌&&◌, ◌||◌, ◌⊎◌, inl, inr, List, [], ◌∷◌, ℕ, zero, suc, ◌+◌, ◌-◌, ◌%◌, ◌/◌, ◌≤◌, ◌<◌, arith, eqb, ltb, length, get_or}
+use Rattle.std.proofs.Math.ListN.{set, length-set, replicate, get_or-replicate}
+use mathlib.Core.Bool.{true≢false}
 use native.Mathlib.Decide.{ℕ_discrete, dec_lt}
-use lib.Dec.{eqb, ltb}
-use lib.ListN.{length, get_or, set, length-set, replicate, get_or-replicate}
-use borrow.Author.Tests.{eq-eqb, ne_eqb, ltb-true}
+use borrow.Author.Tests.{eq-eqb, ne_eqb, lt-ltb, le-ltb}
 use Rattle.owl.specs.Token.{place_at, kind_at, end_at}
 use Rattle.owl.specs.TokenLaws.{end_after, progress, more}
-use Rattle.owl.specs.Grammar.{verdict}
-use Rattle.owl_text.specs.Levels.{next, end_verdict, deeper, updated, opened, marked, at_token, depth_at, mark_at, state_at, stops, verdict_at, in_block, refusing, Clear, Refused, Found}
-use Rattle.owl_text.proofs.TableLaws.{block_in, block_out, refusing_in, refusing_out}
+use Rattle.owl.specs.Grammar.{Verdict, verdict}
+use Rattle.owl_text.specs.Levels.{next, end_verdict, deeper, updated, opened, marked, at_token, depth_at, mark_at, state_at, stops, verdict_at, Updated, Clear, Refused, Found}
 use Rattle.owl_text.proofs.StepLaws.{deeper_most, updated_at, updated_off}
 
 ----------------------------------------------------------------------------------------------------
@@ -36,31 +30,28 @@ set_other (y ∷ l) zero (suc j) x h = refl
 set_other (y ∷ l) (suc i) zero x h = refl
 set_other (y ∷ l) (suc i) (suc j) x h = set_other l i j x (λ e. h (ap suc e))
 
--- what was there is stored again
-set_same : (l : List ℕ) (i j x : ℕ) → x ≡ get_or l i 0 → get_or (set l i x) j 0 ≡ get_or l j 0
-set_same [] i j x e = refl
-set_same (y ∷ l) zero zero x e = e
-set_same (y ∷ l) zero (suc j) x e = refl
-set_same (y ∷ l) (suc i) zero x e = refl
-set_same (y ∷ l) (suc i) (suc j) x e = set_same l i j x e
-
-put : (kept : List ℕ) (block level : ℕ) (f : ℕ → ℕ) (x : ℕ) → length kept ≡ 4096 → x ≡ in_block block level (f (get_or kept (level % 4096) 0)) (get_or kept (level % 4096) 0) →
-    (i : ℕ) → i / 4096 ≡ block → get_or (set kept (level % 4096) x) (i % 4096) 0 ≡ updated level f i (get_or kept (i % 4096) 0)
-put kept block level f x full e i b = go (ℕ_discrete (level / 4096) block) (ℕ_discrete level i)
+-- the level is one of the block
+pub stored : (kept : List ℕ) (block level : ℕ) (f : ℕ → ℕ) (x : ℕ) → length kept ≡ 4096 → level / 4096 ≡ block → x ≡ f (get_or kept (level % 4096) 0) → Updated block level f kept (set kept (level % 4096) x)
+stored kept block level f x full c e = (length-set kept (level % 4096) x ∙ full, λ i b. go i b (ℕ_discrete level i))
   where
-    old : ℕ
-    old = get_or kept (level % 4096) 0
-
-    go : Dec (level / 4096 ≡ block) → Dec (level ≡ i) → get_or (set kept (level % 4096) x) (i % 4096) 0 ≡ updated level f i (get_or kept (i % 4096) 0)
-    go (no c) d =
-        set_same kept (level % 4096) (i % 4096) x (e ∙ sym (block_out block level (f old) old c))
-        ∙ sym (updated_off level f i (get_or kept (i % 4096) 0) (λ z. c (ap (λ (j : ℕ). j / 4096) z ∙ b)))
-    go (yes c) (yes d) =
+    go : (i : ℕ) → i / 4096 ≡ block → Dec (level ≡ i) → get_or (set kept (level % 4096) x) (i % 4096) 0 ≡ updated level f i (get_or kept (i % 4096) 0)
+    go i b (yes d) =
         let p : level % 4096 < 4096 = omega arith in
         ap (λ (j : ℕ). get_or (set kept (level % 4096) x) (j % 4096) 0) (sym d) ∙ set_here kept (level % 4096) x (let z : level % 4096 < length kept = omega arith in z)
-        ∙ e ∙ sym (block_in block level (f old) old c) ∙ ap (λ (j : ℕ). f (get_or kept (j % 4096) 0)) d ∙ sym (updated_at level f i (get_or kept (i % 4096) 0) d)
-    go (yes c) (no d) =
+        ∙ e ∙ ap (λ (j : ℕ). f (get_or kept (j % 4096) 0)) d ∙ sym (updated_at level f i (get_or kept (i % 4096) 0) d)
+    go i b (no d) =
         set_other kept (level % 4096) (i % 4096) x (λ z. d (let y : level ≡ i = omega arith in y)) ∙ sym (updated_off level f i (get_or kept (i % 4096) 0) d)
+
+-- it is not, or f changes nothing there
+pub left_out : (kept : List ℕ) (block level : ℕ) (f : ℕ → ℕ) → length kept ≡ 4096 → (level / 4096 ≡ block → ⊥) → Updated block level f kept kept
+left_out kept block level f full c = (full, λ i b. sym (updated_off level f i (get_or kept (i % 4096) 0) (λ z. c (ap (λ (j : ℕ). j / 4096) z ∙ b))))
+
+pub left_same : (kept : List ℕ) (block level : ℕ) (f : ℕ → ℕ) → length kept ≡ 4096 → ((q : ℕ) → f q ≡ q) → Updated block level f kept kept
+left_same kept block level f full e = (full, λ i b. go i (ℕ_discrete level i))
+  where
+    go : (i : ℕ) → Dec (level ≡ i) → get_or kept (i % 4096) 0 ≡ updated level f i (get_or kept (i % 4096) 0)
+    go i (yes d) = sym (updated_at level f i (get_or kept (i % 4096) 0) d ∙ e (get_or kept (i % 4096) 0))
+    go i (no d) = sym (updated_off level f i (get_or kept (i % 4096) 0) d)
 
 ----------------------------------------------------------------------------------------------------
 -- The loop of `read`
@@ -99,38 +90,35 @@ module _ (s : List ℕ) (block at depth most : ℕ) (kept : List ℕ) (R : Readi
   own : depth / 4096 ≡ block → get_or kept (depth % 4096) 0 ≡ state_at s R.count
   own b = R.states depth b ∙ ap (λ (d : ℕ). mark_at s d R.count) R.deep
 
+  does : depth / 4096 ≡ block → next (get_or kept (depth % 4096) 0) k ≡ next (state_at s R.count) (kind_at s (at_token s R.count))
+  does b = ap₂ next (own b) same_kind
+
   pub goes : (k ≡ 0 → ⊥) → (e : ℕ) → e ≡ end_at s at → at < e
   goes h e d = let z : at < end_at s at = progress s at (more s at R.within (λ c. h (u ∙ c))) in omega arith
 
-  module _ (x : ℕ) (p : x ≡ in_block block depth (next (get_or kept (depth % 4096) 0) k) (get_or kept (depth % 4096) 0)) where
-    does : depth / 4096 ≡ block → x ≡ next (state_at s R.count) (kind_at s (at_token s R.count))
-    does b = p ∙ sym (block_in block depth (next (get_or kept (depth % 4096) 0) k) (get_or kept (depth % 4096) 0) b) ∙ ap₂ next (own b) same_kind
-
-    takes : (k ≡ 0 → ⊥) → refusing block depth x ≡ false → depth / 4096 ≡ block → stops s R.count ≡ false
+  module _ (h : k ≡ 0 → ⊥) where
+    takes : (depth / 4096 ≡ block → next (get_or kept (depth % 4096) 0) k < 80) → depth / 4096 ≡ block → stops s R.count ≡ false
     unfolding stops
-    takes h r b =
-        ap₂ ◌||◌ (ne_eqb (kind_at s (at_token s R.count)) 0 (λ c. h (same_kind ∙ c))) (ap (ltb 79) (sym (does b)) ∙ refusing_in block depth x b ∙ r)
+    takes f b =
+        ap₂ ◌||◌ (ne_eqb (kind_at s (at_token s R.count)) 0 (λ c. h (same_kind ∙ c)))
+        (ap (ltb 79) (sym (does b)) ∙ le-ltb 79 (next (get_or kept (depth % 4096) 0) k) (let z : next (get_or kept (depth % 4096) 0) k < 80 = f b in omega arith))
 
-    pub reading_turn : (k ≡ 0 → ⊥) → refusing block depth x ≡ false → (e r y m : ℕ) → e ≡ end_at s at → e ≤ length s → r ≡ deeper k depth →
-        y ≡ in_block block (depth + 1) (opened k (get_or (set kept (depth % 4096) x) ((depth + 1) % 4096) 0)) (get_or (set kept (depth % 4096) x) ((depth + 1) % 4096) 0) → most ≤ m → r ≤ m →
-        Reading s block e r m (set (set kept (depth % 4096) x) ((depth + 1) % 4096) y)
+    pub reading_turn : (one two : List ℕ) → Updated block depth (λ q. next q k) kept one → (depth / 4096 ≡ block → next (get_or kept (depth % 4096) 0) k < 80) → Updated block (depth + 1) (opened k) one two →
+        (e r m : ℕ) → e ≡ end_at s at → e ≤ length s → r ≡ deeper k depth → most ≤ m → r ≤ m → Reading s block e r m two
     unfolding at_token depth_at mark_at marked
-    reading_turn h f e r y m d b w q g l =
+    reading_turn one two p f q e r m d b w g l =
         let a : at < e = goes h e d in
         let n : deeper k depth ≤ depth + 1 = deeper_most k depth in
         let o : depth ≤ at = R.shallow in
-        let one : List ℕ = set kept (depth % 4096) x in
-        let full : length one ≡ 4096 = length-set kept (depth % 4096) x ∙ R.full in
         record {
           count = suc R.count;
           here = d ∙ ap (end_at s) R.here;
           deep = w ∙ ap₂ deeper same_kind R.deep;
           within = b;
           shallow = (let z : r ≤ e = omega arith in z);
-          full = length-set one ((depth + 1) % 4096) y ∙ full;
+          full = q.0;
           states = λ i c.
-              put one block (depth + 1) (opened k) y full q i c
-              ∙ ap (updated (depth + 1) (opened k) i) (put kept block depth (λ z. next z k) x R.full p i c ∙ ap (updated depth (λ z. next z k) i) (R.states i c))
+              q.1 i c ∙ ap (updated (depth + 1) (opened k) i) (p.1 i c ∙ ap (updated depth (λ q. next q k) i) (R.states i c))
               ∙ ap₂ (λ (d' k' : ℕ). marked i d' k' (mark_at s i R.count)) R.deep same_kind;
           passed = λ j c. past j c (ℕ_discrete j R.count) a;
           deepest = l;
@@ -140,7 +128,7 @@ module _ (s : List ℕ) (block at depth most : ℕ) (kept : List ℕ) (R : Readi
         past j c (yes z) a =
             subst (λ (j : ℕ). (at_token s j < e) × (depth_at s j / 4096 ≡ block → stops s j ≡ false) × (depth_at s j ≤ m)) (sym z) (
               subst (λ (x : ℕ). x < e) R.here a,
-              (λ v. takes h f (ap (λ (d : ℕ). d / 4096) R.deep ∙ v)),
+              (λ v. takes f (ap (λ (d : ℕ). d / 4096) R.deep ∙ v)),
               subst (λ (x : ℕ). x ≤ m) R.deep (let i : depth ≤ most = R.deepest in let v : depth ≤ m = omega arith in v),
             )
         past j c (no z) a =
@@ -152,13 +140,17 @@ module _ (s : List ℕ) (block at depth most : ℕ) (kept : List ℕ) (R : Readi
 ----------------------------------------------------------------------------------------------------
 -- What is handed back
 
-pub bad_number : (block depth n : ℕ) → refusing block depth n ≡ true → 79 < n
-unfolding refusing
-bad_number block depth n h = go (eqb (depth / 4096) block) h
+pub end_well : (s : List ℕ) (q depth : ℕ) → depth ≡ 0 → q ≡ 1 → end_verdict s q depth ≡ verdict 0 0
+unfolding end_verdict
+end_well s q depth d e = rw (eq-eqb depth 0 d, eq-eqb q 1 e, end_verdict)
+
+pub end_early : (s : List ℕ) (q depth : ℕ) → (depth ≡ 0 → q ≡ 1 → ⊥) → end_verdict s q depth ≡ verdict 10 (length s)
+unfolding end_verdict
+end_early s q depth h = go (ℕ_discrete depth 0)
   where
-    go : (b : Bool) → (b && ltb 79 n) ≡ true → 79 < n
-    go true e = ltb-true 79 n e
-    go false e = absurd (true≢false (sym e))
+    go : Dec (depth ≡ 0) → end_verdict s q depth ≡ verdict 10 (length s)
+    go (yes d) = rw (eq-eqb depth 0 d, ne_eqb q 1 (h d), end_verdict)
+    go (no d) = rw (ne_eqb depth 0 d, end_verdict)
 
 at_rises : (s : List ℕ) (n j : ℕ) → n ≤ j → at_token s n ≤ at_token s j
 unfolding at_token
@@ -184,8 +176,8 @@ module _ (s : List ℕ) (block at depth most : ℕ) (kept : List ℕ) (R : Readi
       go (yes e) = (R.passed j (among j (let z : at_token s j < at = omega arith in z))).1 e
       go (no e) = C j (let z : at_token s j < limit = omega arith in z) (let z : depth_at s j / 4096 < block = omega arith in z)
 
-  found : (to number place : ℕ) → to ≤ at → to ≤ limit → Refused s to number place → Found s (block + 1) to number place most
-  found to number place a b F =
+  found : (to : ℕ) (v : Verdict) → to ≤ at → to ≤ limit → Refused s to v → Found s (block + 1) to v most
+  found to v a b F =
       record {
         clear = clear_on to a b;
         refused = F;
@@ -193,14 +185,14 @@ module _ (s : List ℕ) (block at depth most : ℕ) (kept : List ℕ) (R : Readi
       }
 
   -- nothing was found before the first refusal that was given
-  pub found_before : (number place : ℕ) → limit ≤ at → Refused s limit number place ⊎ (length s < limit) → Found s (block + 1) limit number place most
-  found_before number place h (inl F) = found limit number place h (let z : limit ≤ limit = omega arith in z) F
-  found_before number place h (inr l) = absurd (let b : at ≤ length s = R.within in let z : ⊥ = omega arith in z)
+  pub found_before : (v : Verdict) → limit ≤ at → Refused s limit v ⊎ (length s < limit) → Found s (block + 1) limit v most
+  found_before v h (inl F) = found limit v h (let z : limit ≤ limit = omega arith in z) F
+  found_before v h (inr l) = absurd (let b : at ≤ length s = R.within in let z : ⊥ = omega arith in z)
 
   module _ (k : ℕ) (u : k ≡ kind_at s at) (l : at < limit) where
-    stopped : (number place : ℕ) → stops s R.count ≡ true → verdict_at s R.count ≡ verdict number place → Found s (block + 1) at number place most
-    stopped number place a b =
-        found at number place (let z : at ≤ at = omega arith in z) (let z : at ≤ limit = omega arith in z) (
+    stopped : (v : Verdict) → stops s R.count ≡ true → verdict_at s R.count ≡ v → Found s (block + 1) at v most
+    stopped v a b =
+        found at v (let z : at ≤ at = omega arith in z) (let z : at ≤ limit = omega arith in z) (
         record { count = R.count; here = R.here; within = R.within; first = λ j h. (R.passed j h).0; stop = a; says = b }
         )
 
@@ -208,36 +200,30 @@ module _ (s : List ℕ) (block at depth most : ℕ) (kept : List ℕ) (R : Readi
     kind_here = same_kind s block at depth most kept R k u
 
     -- a level of the block refuses the token
-    pub found_bad : (x : ℕ) → x ≡ in_block block depth (next (get_or kept (depth % 4096) 0) k) (get_or kept (depth % 4096) 0) → (k ≡ 0 → ⊥) → refusing block depth x ≡ true → (number place : ℕ) → number ≡ x - 80 →
-        place ≡ place_at s at → Found s (block + 1) at number place most
+    pub found_bad : depth / 4096 ≡ block → (k ≡ 0 → ⊥) → (n place : ℕ) → next (get_or kept (depth % 4096) 0) k ≡ 80 + n → place ≡ place_at s at → Found s (block + 1) at (verdict n place) most
     unfolding stops verdict_at
-    found_bad x p h r number place a b = go (ℕ_discrete (depth / 4096) block)
-      where
-        none : eqb (kind_at s (at_token s R.count)) 0 ≡ false
-        none = ne_eqb (kind_at s (at_token s R.count)) 0 (λ c. h (kind_here ∙ c))
-
-        go : Dec (depth / 4096 ≡ block) → Found s (block + 1) at number place most
-        go (no c) = absurd (true≢false (sym r ∙ sym (refusing_out block depth x c)))
-        go (yes c) =
-            let d = does s block at depth most kept R k u x p c in
-            stopped number place (ap₂ ◌||◌ none (ap (ltb 79) (sym d) ∙ refusing_in block depth x c ∙ r))
-            (ap (λ (t : Bool). elim t [
-              | true ↦ end_verdict s (state_at s R.count) (depth_at s R.count)
-              | false ↦ verdict (next (state_at s R.count) (kind_at s (at_token s R.count)) - 80) (place_at s (at_token s R.count))
-            ]) none
-            ∙ ap₂ verdict (ap (λ (m : ℕ). m - 80) (sym d) ∙ sym a) (ap (place_at s) (sym R.here) ∙ sym b))
-
-    -- the text ends: at depth 0 the first block has the state
-    pub found_end : k ≡ 0 → (b : Bool) → b ≡ (eqb depth 0 && eqb (get_or kept 0 0) 1) → (number place : ℕ) → elim b [ true ↦ verdict 0 0 | false ↦ verdict 10 (length s) ] ≡ verdict number place →
-        Found s (block + 1) at number place most
-    unfolding stops verdict_at end_verdict
-    found_end h b e number place w =
-        stopped number place halts
+    found_bad c h n place p b =
+        let d : 80 + n ≡ next (state_at s R.count) (kind_at s (at_token s R.count)) = sym p ∙ does s block at depth most kept R k u c in
+        stopped (verdict n place) (ap₂ ◌||◌ none (ap (ltb 79) (sym d) ∙ lt-ltb 79 (80 + n) (omega arith)))
         (ap (λ (t : Bool). elim t [
           | true ↦ end_verdict s (state_at s R.count) (depth_at s R.count)
           | false ↦ verdict (next (state_at s R.count) (kind_at s (at_token s R.count)) - 80) (place_at s (at_token s R.count))
         ]) none
-        ∙ ap (λ (t : Bool). elim t [ true ↦ verdict 0 0 | false ↦ verdict 10 (length s) ]) (sym (e ∙ same (ℕ_discrete depth 0)))
+        ∙ ap₂ verdict (ap (λ (m : ℕ). m - 80) (sym d) ∙ (let z : (80 + n) - 80 ≡ n = omega arith in z)) (ap (place_at s) (sym R.here) ∙ sym b))
+      where
+        none : eqb (kind_at s (at_token s R.count)) 0 ≡ false
+        none = ne_eqb (kind_at s (at_token s R.count)) 0 (λ c. h (kind_here ∙ c))
+
+    -- the text ends: at depth 0 the first block has the state
+    pub found_end : k ≡ 0 → (v : Verdict) → end_verdict s (get_or kept 0 0) depth ≡ v → Found s (block + 1) at v most
+    unfolding stops verdict_at end_verdict
+    found_end h v w =
+        stopped v halts
+        (ap (λ (t : Bool). elim t [
+          | true ↦ end_verdict s (state_at s R.count) (depth_at s R.count)
+          | false ↦ verdict (next (state_at s R.count) (kind_at s (at_token s R.count)) - 80) (place_at s (at_token s R.count))
+        ]) none
+        ∙ ap (λ (t : Bool). elim t [ true ↦ verdict 0 0 | false ↦ verdict 10 (length s) ]) (sym (same (ℕ_discrete depth 0)))
         ∙ w)
       where
         none : eqb (kind_at s (at_token s R.count)) 0 ≡ true

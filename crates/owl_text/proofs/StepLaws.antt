@@ -4,8 +4,7 @@
 --   stack_of m d          == the states of the levels below d, innermost first
 --   machine s f n        == the machine after n tokens, its stack made of the levels
 --   turn, run_to         == a token that does not stop, and n of them
---   Says s n p           == the verdict on s
---   settled              == the first token that stops gives it
+--   settled              == the first token that stops gives the verdict
 use mathlib.Core.Path.{◌≡◌, refl, sym, ap, ap₂, ◌∙◌}
 use mathlib.Core.Bool.{Bool, true, false, ◌||◌, true≢false}
 use mathlib.Core.List.{List, [], ◌∷◌}
@@ -210,12 +209,9 @@ module _ (s : List ℕ) where
       ∙ ap (λ (d : ℕ). elim (eqb (kind n) 0) [ true ↦ end_verdict s (state_at s n) d | false ↦ verdict (next (state_at s n) (kind n) - 80) (place_at s (at_token s n)) ])
       (stack_length (λ i. mark_at s i n) (depth_at s n))
 
-abbrev pub Says : List ℕ → ℕ → ℕ → Type 0
-Says s n p = (n ≡ (checked s).number) × (p ≡ (checked s).place)
-
 -- where every block up to the deepest level was read
-pub settled : (s : List ℕ) (block at number place most : ℕ) → Found s block at number place most → most / 4096 < block → Says s number place
-settled s block at number place most F small = (ap (λ (v : Verdict). v.number) (sym whole), ap (λ (v : Verdict). v.place) (sym whole))
+pub settled : (s : List ℕ) (block at : ℕ) (v : Verdict) (most : ℕ) → Found s block at v most → most / 4096 < block → v ≡ checked s
+settled s block at v most F small = sym whole
   where
     n : ℕ
     n = F.refused.count
@@ -233,6 +229,6 @@ settled s block at number place most F small = (ap (λ (v : Verdict). v.number) 
         let r : n ≤ at_token s n = rises s n clear (let z : at_token s n ≤ length s = omega arith in z) in
         omega arith
 
-    whole : checked s ≡ verdict number place
+    whole : checked s ≡ v
     whole =
         checked_run s ∙ ap (λ (k : ℕ). run s k 0 0 []) enough ∙ run_to s n (suc (length s - n)) clear ∙ stop_here s (length s - n) n F.refused.stop ∙ F.refused.says

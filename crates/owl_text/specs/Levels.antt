@@ -21,12 +21,11 @@
 --
 -- What the code does for want of a stack: it reads the text once for each block of 4,096 levels.
 --
---   in_block block level a b == a if the level is one of the block, else b
---   refusing block depth n  == a token in a level of the block refuses, n being what it does
+--   Updated block level f a b == b has the states of the block's levels where a had them, but for f at this level
 --   Clear s block limit     == before byte `limit` no token stops in a level of the blocks before this one
---   Refused s at number place == the token sought from byte `at` stops, with this verdict
+--   Refused s at v          == the token sought from byte `at` stops, with the verdict v
 --   Found                   == both, and no level before that token is deeper than `most`
-use Rattle.std.specs.Prelude.{◌≡◌, Bool, true, false, ◌&&◌, ◌||◌, List, [], ◌∷◌, ℕ, zero, suc, ◌+◌, ◌-◌, ◌/◌, ◌≤◌, ◌<◌, eqb, ltb, length, get_or}
+use Rattle.std.specs.Prelude.{◌≡◌, Bool, true, false, ◌&&◌, ◌||◌, List, [], ◌∷◌, ℕ, zero, suc, ◌+◌, ◌-◌, ◌/◌, ◌%◌, ◌≤◌, ◌<◌, eqb, ltb, length, get_or}
 use Rattle.owl.specs.Token.{place_at, kind_at, end_at}
 use Rattle.owl.specs.Grammar.{Slot, left_s, right_s, equals_s, label_s, target_s, name_s, role_s, entity_s, ontology_s, class_s, classes_s, no_third_s, head_s, version_s, items_s, prefixes_s, Verdict, verdict}
 
@@ -184,24 +183,22 @@ verdict_at s n =
 ----------------------------------------------------------------------------------------------------
 -- Block by block
 
-unfoldable pub in_block : ℕ → ℕ → ℕ → ℕ → ℕ
-in_block block level a b = elim (eqb (level / 4096) block) [ true ↦ a | false ↦ b ]
-
-unfoldable pub refusing : ℕ → ℕ → ℕ → Bool
-refusing block depth n = eqb (depth / 4096) block && ltb 79 n
+-- of the levels of the block, f changes the state of this one alone
+abbrev pub Updated : ℕ → ℕ → (ℕ → ℕ) → List ℕ → List ℕ → Type 0
+Updated block level f a b = (length b ≡ 4096) × ((i : ℕ) → i / 4096 ≡ block → get_or b (i % 4096) 0 ≡ updated level f i (get_or a (i % 4096) 0))
 
 abbrev pub Clear : List ℕ → ℕ → ℕ → Type 0
 Clear s block limit = (j : ℕ) → at_token s j < limit → depth_at s j / 4096 < block → stops s j ≡ false
 
-pub record Refused (s : List ℕ) (at number place : ℕ) : Type 0 where
+pub record Refused (s : List ℕ) (at : ℕ) (v : Verdict) : Type 0 where
   pub count : ℕ
   pub here : at ≡ at_token s count
   pub within : at ≤ length s
   pub first : (j : ℕ) → j < count → at_token s j < at
   pub stop : stops s count ≡ true
-  pub says : verdict_at s count ≡ verdict number place
+  pub says : verdict_at s count ≡ v
 
-pub record Found (s : List ℕ) (block at number place most : ℕ) : Type 0 where
+pub record Found (s : List ℕ) (block at : ℕ) (v : Verdict) (most : ℕ) : Type 0 where
   pub clear : Clear s block at
-  pub refused : Refused s at number place
+  pub refused : Refused s at v
   pub deepest : (j : ℕ) → at_token s j < at → depth_at s j ≤ most

@@ -2,7 +2,6 @@
 --
 --   listed, unlisted        == a run is this listed word, or none of them
 --   listed_kind, other_kind_lem == the kind of a run that is listed, and of one that is not
---   other_..                == the kind of a run that is not listed, by its shape; a word's by what follows it
 use mathlib.Core.Path.{◌≡◌, refl, sym, ap, ap₂, subst, ◌∙◌}
 use mathlib.Core.Bool.{Bool, true, false, ◌&&◌, ◌||◌}
 use mathlib.Core.List.{[], List, ◌∷◌}
@@ -10,28 +9,28 @@ use Prim.Native.Nat.{ℕ, ◌+◌, ◌<◌}
 use native.Mathlib.Omega.{arith}
 use lib.Dec.{T, eqb, eqb→eq}
 use lib.ListN.{length, get_or}
-use borrow.Author.Tests.{ne_eqb}
 use Rattle.el.specs.Test.{all_below, any_of}
 use Rattle.el.specs.TestLaws.{true_is, and_left, and_right, all_below_at}
 use Rattle.owl.specs.Once.{is_among, place}
 use Rattle.owl.specs.Naming.{same_bytes}
 use Rattle.owl.specs.NamingLaws.{same_bytes_means}
 use Rattle.owl.specs.Token.{is_plain, byte_class, shapes, shaped, shape, keywords, prefix_word, ontology_word, declaration_word, class_word, property_word, sub_class_word, equivalent_word, intersection_word, some_values_word, word_kind, run_kind}
-use Rattle.owl_token.specs.Keyword.{keyword_kind, Listed, other_kind}
+use Rattle.owl_token.specs.Keyword.{keyword_kind, IsListed, other_kind}
 
 -- each listed word has the kind of its place, and is of shape 2
 words_right : T (all_below 9 (λ i. eqb (keyword_kind (get_or keywords i [])) (4 + i) && eqb (shape 0 (get_or keywords i [])) 2))
 unfolding all_below keyword_kind keywords prefix_word ontology_word declaration_word class_word property_word sub_class_word equivalent_word intersection_word some_values_word is_among any_of place same_bytes shape shaped shapes byte_class is_plain
 words_right = tt
 
-pub listed : (i : ℕ) (w : List ℕ) → i < 9 → same_bytes w (get_or keywords i []) ≡ true → Listed w (4 + i) (length (get_or keywords i []))
+pub listed : (i : ℕ) (w : List ℕ) → i < 9 → same_bytes w (get_or keywords i []) ≡ true → IsListed w (4 + i) (length (get_or keywords i []))
 listed i w h e =
     let k : List ℕ = get_or keywords i [] in
     let t = all_below_at 9 i (λ i. eqb (keyword_kind (get_or keywords i [])) (4 + i) && eqb (shape 0 (get_or keywords i [])) 2) words_right h in
-    subst (λ (w : List ℕ). Listed w (4 + i) (length k)) (sym (same_bytes_means w k (true_is (same_bytes w k) e))) (
+    subst (λ (w : List ℕ). IsListed w (4 + i) (length k)) (sym (same_bytes_means w k (true_is (same_bytes w k) e))) (
       sym (eqb→eq (keyword_kind k) (4 + i) (and_left (eqb (keyword_kind k) (4 + i)) (eqb (shape 0 k) 2) t)),
       omega arith,
-      λ z. (refl, eqb→eq (shape 0 k) 2 (and_right (eqb (keyword_kind k) (4 + i)) (eqb (shape 0 k) 2) t)),
+      refl,
+      eqb→eq (shape 0 k) 2 (and_right (eqb (keyword_kind k) (4 + i)) (eqb (shape 0 k) 2) t),
     )
 
 abbrev pub NoneSame : List ℕ → List (List ℕ) → Type 0
@@ -43,11 +42,11 @@ unfolding is_among any_of
 none_among w [] h = refl
 none_among w (k ∷ ks) h = ap₂ ◌||◌ h.0 (none_among w ks h.1)
 
-pub unlisted : (w : List ℕ) → NoneSame w keywords → Listed w 0 0
+pub unlisted : (w : List ℕ) → NoneSame w keywords → keyword_kind w ≡ 0
 unfolding keyword_kind
-unlisted w h = (sym (ap (λ (b : Bool). elim b [ true ↦ 4 + place same_bytes w keywords | false ↦ 0 ]) (none_among w keywords h)), omega arith, λ z. absurd (z refl))
+unlisted w h = ap (λ (b : Bool). elim b [ true ↦ 4 + place same_bytes w keywords | false ↦ 0 ]) (none_among w keywords h)
 
-pub listed_kind : (w : List ℕ) (o : Bool) (k : ℕ) → k ≡ keyword_kind w → (k ≡ 0 → ⊥) → shape 0 w ≡ 2 → k ≡ run_kind w o
+pub listed_kind : (w : List ℕ) (o : Bool) (k : ℕ) → k ≡ keyword_kind w → 0 < k → shape 0 w ≡ 2 → k ≡ run_kind w o
 unfolding keyword_kind word_kind run_kind
 listed_kind w o k e h g =
     go (is_among same_bytes w keywords) e
@@ -56,7 +55,7 @@ listed_kind w o k e h g =
     go : (b : Bool) → ◌≡◌ {A = ℕ} k (elim b [ true ↦ 4 + place same_bytes w keywords | false ↦ 0 ]) →
         ◌≡◌ {A = ℕ} k (elim b [ true ↦ 4 + place same_bytes w keywords | false ↦ elim o [ true ↦ 16 | false ↦ 17 ] ])
     go true e = e
-    go false e = absurd (h e)
+    go false e = absurd (let z : k ≡ 0 = e in let y : ⊥ = omega arith in y)
 
 pub other_kind_lem : (w : List ℕ) (o : Bool) → 0 ≡ keyword_kind w → other_kind (shape 0 w) o ≡ run_kind w o
 unfolding keyword_kind word_kind run_kind other_kind
@@ -68,19 +67,3 @@ other_kind_lem w o e =
         ◌≡◌ {A = ℕ} (elim o [ true ↦ 16 | false ↦ 17 ]) (elim b [ true ↦ 4 + place same_bytes w keywords | false ↦ elim o [ true ↦ 16 | false ↦ 17 ] ])
     go true e = absurd (let z : 0 ≡ 4 + place same_bytes w keywords = e in let y : ⊥ = omega arith in y)
     go false e = refl
-
-pub other_prefix : (m : ℕ) (o : Bool) → m ≡ 3 → 15 ≡ other_kind m o
-unfolding other_kind
-other_prefix m o h = sym (ap (λ (k : ℕ). other_kind k o) h)
-
-pub other_name : (m : ℕ) (o : Bool) → m ≡ 4 → 13 ≡ other_kind m o
-unfolding other_kind
-other_name m o h = sym (ap (λ (k : ℕ). other_kind k o) h)
-
-pub other_odd : (m : ℕ) (o : Bool) → m ≡ 5 → 17 ≡ other_kind m o
-unfolding other_kind
-other_odd m o h = sym (ap (λ (k : ℕ). other_kind k o) h)
-
-pub other_word : (m n : ℕ) (o b : Bool) → (m ≡ 3 → ⊥) → (m ≡ 4 → ⊥) → (m ≡ 5 → ⊥) → o ≡ b → elim b [ true ↦ 16 | false ↦ 17 ] ≡ n → n ≡ other_kind m o
-unfolding other_kind
-other_word m n o b x y z e d = rw (ne_eqb m 3 x, ne_eqb m 4 y, ne_eqb m 5 z, other_kind) (sym (ap (λ (b : Bool). elim b [ true ↦ 16 | false ↦ 17 ]) e ∙ d))

@@ -1,33 +1,32 @@
 -- Laws of one token: what the code finds at a position is what the definitions say stands there.
 --
---   opens_none, opens_here     == the look-ahead to `(`
+--   is_open, opens_here        == the look-ahead to `(`
 --   end_kind, end_end          == no token is left
---   run_size, word_token, other_token == the token is a run: a listed word, or another
+--   word_token, other_token    == the token is a run: a listed word, or another
 --   full_kind_lem, full_size_lem, open_kind, open_size == it begins with `<`, closed or not
 --   mark_kind, mark_size       == it is one byte
-use mathlib.Core.Path.{◌≡◌, refl, sym, ap, subst, ◌∙◌}
-use mathlib.Core.Bool.{true, false}
-use mathlib.Core.List.{List, ◌∷◌}
-use Prim.Native.Nat.{ℕ, ◌+◌, ◌-◌, ◌≤◌, ◌<◌}
-use native.Mathlib.Omega.{arith}
-use lib.Dec.{eqb, ltb}
-use lib.ListN.{length, get_or, take, drop, drop_of_length-le, length-take, length-drop, get_or-eq_default}
-use lib.Seq.{get_or-drop, drop-drop, take_all}
+use Rattle.std.proofs.Common.{◌≡◌, refl, sym, ap, subst, ◌∙◌, true, false, List, ◌∷◌, ℕ, ◌+◌, ◌-◌, ◌≤◌, ◌<◌, arith, eqb, ltb, length, get_or, take, drop, Option, Some, None, drop_of_length-le, length-take, length-drop, get_or-drop}
+use lib.Seq.{take_all}
+use Rattle.std.proofs.Math.Seq.{drop-drop}
+use Rattle.std.specs.Borrow.{Bor}
+use Rattle.std.specs.Option.{option_eq, option_map, unwrap_or}
 use borrow.Author.Tests.{lt-ltb, le-ltb}
 use Rattle.owl.specs.Token.{byte_class, blank, run_length, shape, run_kind, up_to_close, opens_after, full_kind, full_size, mark_kinds, kind_of, size_of, place_at, kind_at, end_at}
 use Rattle.owl.specs.TokenLaws.{drop_cons, run_length_le}
-use Rattle.owl_token.specs.Keyword.{run_of, Listed, other_kind}
+use Rattle.owl_token.specs.Keyword.{run_of, keyword_kind, IsListed, other_kind}
 use Rattle.owl_token.proofs.KeywordLaws.{listed_kind, other_kind_lem}
 
 ----------------------------------------------------------------------------------------------------
 -- The look-ahead
 
+-- a byte that may be there, asked whether it is this one
+pub is_open : (o : Option (Bor ℕ)) (b : Bor ℕ) → b.now ≡ 40 → option_eq (λ (x y : Bor ℕ). eqb x.now y.now) o (Some b) ≡ eqb (unwrap_or (option_map (λ (x : Bor ℕ). x.now) o) 0) 40
+is_open None b e = refl
+is_open (Some x) b e = ap (eqb x.now) e
+
 opens_at : (s : List ℕ) (at p : ℕ) → p ≡ place_at s at → opens_after (drop at s) ≡ eqb (get_or s p 0) 40
 unfolding opens_after place_at
 opens_at s at p e = ap (λ (b : ℕ). eqb b 40) (get_or-drop at s (blank 0 (drop at s)) 0 ∙ ap (λ (k : ℕ). get_or s k 0) (sym e))
-
-pub opens_none : (s : List ℕ) (at p : ℕ) → p ≡ place_at s at → length s ≤ p → false ≡ opens_after (drop at s)
-opens_none s at p e h = sym (opens_at s at p e ∙ ap (λ (b : ℕ). eqb b 40) (get_or-eq_default s 0 {n = p} h))
 
 pub opens_here : (s : List ℕ) (at p : ℕ) → p ≡ place_at s at → eqb (get_or s p 0) 40 ≡ opens_after (drop at s)
 opens_here s at p e = sym (opens_at s at p e)
@@ -79,26 +78,26 @@ module _ (s : List ℕ) (at p : ℕ) (e : p ≡ place_at s at) where
           ∙ end_here
 
       -- what was sought among the listed words is the run at p
-      module _ (k n : ℕ) (is : Listed (run_of (take (length s - p) (drop p s))) k n) where
-        listed_run : Listed (run_of (drop p s)) k n
-        listed_run =
-            subst (λ (l : List ℕ). Listed (run_of l) k n) (take_all (length s - p) (drop p s) (let z : length (drop p s) ≡ length s - p = length-drop p s in omega arith)) is
+      front : run_of (take (length s - p) (drop p s)) ≡ run_of (drop p s)
+      front = ap (λ (l : List ℕ). run_of l) (take_all (length s - p) (drop p s) (let z : length (drop p s) ≡ length s - p = length-drop p s in omega arith))
 
-        pub word_token : (k ≡ 0 → ⊥) → (k ≡ kind_at s at) × (p + n ≡ end_at s at) × (p + n ≤ length s)
-        word_token u =
-            let l : run_length (drop p s) ≤ length (drop p s) = run_length_le (drop p s) in
-            let d : length (drop p s) ≡ length s - p = length-drop p s in
-            let t = length-take (run_length (drop p s)) (drop p s) in
-            let m : n ≡ length (run_of (drop p s)) = (listed_run.2 u).0 in
-            let r : n ≡ run_length (drop p s) = omega arith in (
-              listed_kind (run_of (drop p s)) (opens_after (drop (p + run_length (drop p s)) s)) k listed_run.0 u (listed_run.2 u).1 ∙ run_kind_lem (p + run_length (drop p s)) refl,
-              ap (λ (j : ℕ). p + j) r ∙ run_size,
-              omega arith,
-            )
+      pub word_token : (k n : ℕ) → IsListed (run_of (take (length s - p) (drop p s))) k n → (k ≡ kind_at s at) × (p + n ≡ end_at s at) × (p + n ≤ length s)
+      word_token k n is =
+          let is' = subst (λ (w : List ℕ). IsListed w k n) front is in
+          let l : run_length (drop p s) ≤ length (drop p s) = run_length_le (drop p s) in
+          let d : length (drop p s) ≡ length s - p = length-drop p s in
+          let t = length-take (run_length (drop p s)) (drop p s) in
+          let m : n ≡ length (run_of (drop p s)) = is'.2 in
+          let r : n ≡ run_length (drop p s) = omega arith in (
+            listed_kind (run_of (drop p s)) (opens_after (drop (p + run_length (drop p s)) s)) k is'.0 is'.1 is'.3 ∙ run_kind_lem (p + run_length (drop p s)) refl,
+            ap (λ (j : ℕ). p + j) r ∙ run_size,
+            omega arith,
+          )
 
-        pub other_token : (m q : ℕ) → k ≡ 0 → m ≡ shape 0 (run_of (drop p s)) → q ≡ p + run_length (drop p s) → other_kind m (opens_after (drop q s)) ≡ kind_at s at
-        other_token m q z g d =
-            ap (λ (j : ℕ). other_kind j (opens_after (drop q s))) g ∙ other_kind_lem (run_of (drop p s)) (opens_after (drop q s)) (sym z ∙ listed_run.0) ∙ run_kind_lem q d
+      pub other_token : keyword_kind (run_of (take (length s - p) (drop p s))) ≡ 0 → (m q : ℕ) → m ≡ shape 0 (run_of (drop p s)) → q ≡ p + run_length (drop p s) → other_kind m (opens_after (drop q s)) ≡ kind_at s at
+      other_token z m q g d =
+          ap (λ (j : ℕ). other_kind j (opens_after (drop q s))) g
+          ∙ other_kind_lem (run_of (drop p s)) (opens_after (drop q s)) (sym z ∙ ap keyword_kind front) ∙ run_kind_lem q d
 
     module _ (not_run : ltb (byte_class here) 5 ≡ false) where
       at_full : eqb (byte_class here) 11 ≡ true → full_kind (drop (p + 1) s) ≡ kind_at s at

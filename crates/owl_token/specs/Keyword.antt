@@ -1,21 +1,17 @@
 -- Small definitions that the code's promises name.
 --
 --   ends_line b         == the byte b is a line feed or a carriage return
---   AllPlain s a b     == the bytes of s from a up to b are letters, digits or bytes from 128
 --   run_of l            == the run at the front of l
 --   keyword_kind w      == the kind of a listed word, 0 for any other
---   Listed w kind size == w is the listed word of this kind and length, or kind is 0 and it is not listed
+--   IsListed w kind size == w is the listed word of this kind and length
 --   other_kind m o      == the kind of a run of shape m that is not listed; o says whether `(` follows
-use Rattle.std.specs.Prelude.{◌≡◌, Bool, true, false, ◌||◌, List, ℕ, ◌+◌, ◌≤◌, ◌<◌, eqb, length, get_or, take}
+use Rattle.std.specs.Prelude.{◌≡◌, Bool, true, false, ◌||◌, List, ℕ, ◌+◌, ◌<◌, eqb, length, take}
 use Rattle.owl.specs.Once.{is_among, place}
 use Rattle.owl.specs.Naming.{same_bytes}
-use Rattle.owl.specs.Token.{is_plain, run_length, shape, keywords}
+use Rattle.owl.specs.Token.{run_length, shape, keywords}
 
 unfoldable pub ends_line : ℕ → Bool
 ends_line b = eqb b 10 || eqb b 13
-
-abbrev pub AllPlain : List ℕ → ℕ → ℕ → Type 0
-AllPlain s a b = (a ≤ b) × (b ≤ length s) × ((j : ℕ) → a ≤ j → j < b → is_plain (get_or s j 0) ≡ true)
 
 abbrev pub run_of : List ℕ → List ℕ
 run_of l = take (run_length l) l
@@ -24,8 +20,8 @@ unfoldable pub keyword_kind : List ℕ → ℕ
 keyword_kind w = elim (is_among same_bytes w keywords) [ true ↦ 4 + place same_bytes w keywords | false ↦ 0 ]
 
 -- a listed word is of shape 2, a word
-abbrev pub Listed : List ℕ → ℕ → ℕ → Type 0
-Listed w kind size = (kind ≡ keyword_kind w) × (kind < 13) × ((kind ≡ 0 → ⊥) → (size ≡ length w) × (shape 0 w ≡ 2))
+abbrev pub IsListed : List ℕ → ℕ → ℕ → Type 0
+IsListed w kind size = (kind ≡ keyword_kind w) × (0 < kind) × (size ≡ length w) × (shape 0 w ≡ 2)
 
 unfoldable pub other_kind : ℕ → Bool → ℕ
 other_kind m o =

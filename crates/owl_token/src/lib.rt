@@ -1,41 +1,84 @@
 // The tokens of a text. There is no token list: a token is found from a position, by its bytes alone.
 #![tactic(auto)]
 
-ghost use Rattle.std.specs.Prelude.{◌≡◌, true, false, ◌+◌, ◌*◌, ◌≤◌, ◌<◌, T, ltb, length, get_or, drop};
+ghost use Rattle.std.specs.Prelude.{◌≡◌, true, false, ◌+◌, ◌*◌, ◌≤◌, ◌<◌, T, ltb, length, get_or, drop, MatchOption};
+ghost use Rattle.std.specs.List.{prefix_len};
 ghost use Rattle.el.specs.Test.{every_of};
 ghost use Rattle.owl.specs.Naming.{same_bytes};
 ghost use Rattle.owl.specs.Token.{is_plain, byte_class, between, run_length, shapes, shape, up_to_close, opens_after, mark_kinds, place_at, kind_at, end_at};
-ghost use Rattle.owl_token.specs.Keyword.{ends_line, AllPlain, run_of, Listed, other_kind};
+ghost use Rattle.owl_token.specs.Keyword.{ends_line, run_of, keyword_kind, IsListed, other_kind};
+ghost use Rattle.owl_token.specs.Kind.{kind_number};
+ghost use Rattle.owl_token.specs.Run.{class_number, shape_number};
+
+// What a token is. The number of each is its place here, from 0.
+#[derive(Clone, Copy, PartialEq, Eq)]
+pub enum Kind {
+    // No token is left.
+    End,
+    Open,
+    Close,
+    Equals,
+    Prefix,
+    Ontology,
+    Declaration,
+    Class,
+    ObjectProperty,
+    SubClassOf,
+    EquivalentClasses,
+    ObjectIntersectionOf,
+    ObjectSomeValuesFrom,
+    // A short name.
+    Short,
+    // A full name, `<` to `>`.
+    Full,
+    PrefixName,
+    // A word that is not listed, before `(`.
+    Unlisted,
+    Other,
+}
 
 // A token: its kind, where it begins and where the text goes on.
 #[derive(Clone, Copy)]
 pub struct Token {
-    pub kind: u8,
+    pub kind: Kind,
     pub place: usize,
     pub end: usize,
 }
 
-// A run: where it ends, and what it is (`shapes`).
+// What a byte of a run is, as far as the run's shape goes by it.
+#[derive(Clone, Copy, PartialEq, Eq)]
+enum Class {
+    // A letter, a digit or a byte from 128.
+    Plain,
+    Underscore,
+    // `-` or `.`.
+    Dash,
+    Colon,
+    Odd,
+}
+
+// What a run is, as far as it goes.
 #[derive(Clone, Copy)]
-pub struct Run {
-    pub end: usize,
-    pub shape: u8,
+enum Shape {
+    Empty,
+    // `_` alone.
+    Lone,
+    Word,
+    // It ends in its first colon.
+    PrefixName,
+    Short,
+    Neither,
 }
 
-// A listed word.
+// A run: where it ends, and what it is.
 #[derive(Clone, Copy)]
-pub struct Word {
-    pub kind: u8,
-    pub size: usize,
+struct Run {
+    end: usize,
+    shape: Shape,
 }
 
-fn wide(x: u8) -> usize
-    ensures { result ≡ x }
-{
-    x as usize
-}
-
-// Letters, digits and bytes from 128, of which texts mostly consist. A bit of the numbers stands for each byte.
+// Letters, digits and bytes from 128, of which texts mostly consist. A bit of the numbers stands for each byte:
+// with `is_ascii_alphanumeric` in their place, the check of a text takes 3.5 in a hundred more instructions.
 fn is_plain(b: u8) -> bool
     ensures { result ≡ is_plain b }
 {
@@ -50,7 +93,8 @@ fn is_plain(b: u8) -> bool
     (digits >> b) % 2 == 1
 }
 
-// Whether a byte is one of a run. A bit of the number stands for each byte that is not.
+// Whether a byte is one of a run. A bit of the number stands for each byte that is not. With `b >= 64 ||`,
+// `token_at` saves more registers in each call.
 fn in_run(b: u8) -> bool
     ensures { result ≡ ltb (byte_class b) 5 }
 {
@@ -62,34 +106,28 @@ fn in_run(b: u8) -> bool
 }
 
 // The class of a byte of a run that is not plain.
-fn odd_class(b: u8) -> u8
+#[tactic(auto, unfolding(owl::specs::Token::is_plain, owl::specs::Token::byte_class))]
+fn odd_class(b: u8) -> Class
     requires { (is_plain b ≡ false) × (ltb (byte_class b) 5 ≡ true) }
-    ensures { (result ≡ byte_class b) × (result < 5) }
+    ensures { class_number result ≡ byte_class b }
 {
-    if b == 58 {
-        return 3;
+    match b {
+        b'_' => Class::Underscore,
+        b'-' | b'.' => Class::Dash,
+        b':' => Class::Colon,
+        _ => Class::Odd,
     }
-    if b == 45 {
-        return 2;
-    }
-    if b == 46 {
-        return 2;
-    }
-    if b == 95 {
-        return 1;
-    }
-    4
 }
 
+#[tactic(auto, unfolding(crate::specs::Keyword::ends_line))]
 fn ends_line(b: u8) -> bool
     ensures { result ≡ ends_line b }
 {
-    if b == 10 {
-        return true;
-    }
-    b == 13
+    b == b'\n' || b == b'\r'
 }
 
+// What a byte does between tokens (c is 0) or in a comment (1): 0 or 1 again, or 2, a token begins. Numbers, as with
+// an `Option<bool>` in their place the check of a text takes 2 in a hundred more instructions.
 fn between(c: u8, b: u8) -> u8
     requires { c < 2 }
     ensures { (result ≡ between c b) × (result < 3) }
@@ -100,13 +138,13 @@ fn between(c: u8, b: u8) -> u8
     if c == 1 {
         return 1;
     }
-    if b == 32 {
+    if b == b' ' {
         return 0;
     }
-    if b == 9 {
+    if b == b'\t' {
         return 0;
     }
-    if b == 35 {
+    if b == b'#' {
         return 1;
     }
     2
@@ -117,63 +155,59 @@ fn skip(s: &[u8], at: usize) -> usize
     requires { at ≤ length s.now }
     ensures { (result ≡ place_at s.now at) × (result ≤ length s.now) }
 {
-    let mut i = at;
     let mut c = 0;
-    while i < s.len() {
+    for i in at..s.len() {
         c = between(c, s[i]);
         if c == 2 {
             return i;
         }
-        i += 1;
     }
-    i
+    s.len()
 }
 
-// The shape of a run after one more byte. A class has a number, and a shape a digit of it, the last for shape 0.
-fn shaped(m: u8, c: u8) -> u8
-    requires { (m < 6) × (c < 5) }
-    ensures { (result ≡ get_or shapes (m * 5 + c) 5) × (result < 6) }
+// The shape of a run after one more byte.
+#[tactic(auto, unfolding(owl::specs::Token::shapes))]
+fn shape_after(shape: Shape, class: Class) -> Shape
+    ensures { shape_number result ≡ get_or shapes (shape_number shape * 5 + class_number class) 5 }
 {
-    let after: [u32; 5] = [0x544222, 0x544221, 0x545222, 0x544353, 0x555555];
-    ((after[wide(c)] >> (4 * m)) % 16) as u8
-}
-
-// Where the plain bytes from a position on end.
-fn plain_end(s: &[u8], at: usize) -> usize
-    requires { at ≤ length s.now }
-    ensures { AllPlain s.now at result }
-{
-    let mut i = at;
-    while i < s.len() {
-        if is_plain(s[i]) {
-            i += 1;
-        } else {
-            return i;
-        }
+    match (class, shape) {
+        (Class::Odd, _) | (_, Shape::Neither) => Shape::Neither,
+        (Class::Underscore, Shape::Empty) => Shape::Lone,
+        (Class::Colon, Shape::Empty | Shape::Word) => Shape::PrefixName,
+        (Class::Colon, Shape::Lone) | (Class::Dash, Shape::PrefixName) => Shape::Neither,
+        (_, Shape::Empty | Shape::Lone | Shape::Word) => Shape::Word,
+        (_, Shape::PrefixName | Shape::Short) => Shape::Short,
     }
-    i
 }
 
-// The run at a position: where it ends, and what it is. Its shape does not change from one plain byte to the next.
+// How many plain bytes stand at the front.
+fn plain_count(s: &[u8]) -> usize
+    ensures { result ≡ prefix_len is_plain s.now }
+{
+    s.iter().take_while(|b| is_plain(**b)).count()
+}
+
+// The run at a position. Its shape does not change from one plain byte to the next.
 fn run_at(s: &[u8], at: usize) -> Run
     requires { at ≤ length s.now }
-    ensures { (result.end ≡ at + run_length (drop at s.now)) × (result.end ≤ length s.now) × (result.shape ≡ shape 0 (run_of (drop at s.now))) × (result.shape < 6) }
+    ensures { (result.end ≡ at + run_length (drop at s.now)) × (result.end ≤ length s.now) × (shape_number result.shape ≡ shape 0 (run_of (drop at s.now))) }
 {
-    let mut i = at;
-    let mut m = 0;
-    while i < s.len() {
-        let b = s[i];
+    let mut end = at;
+    let mut shape = Shape::Empty;
+    while end < s.len() {
+        let b = s[end];
         if is_plain(b) {
-            m = shaped(m, 0);
-            i = plain_end(s, i + 1);
+            shape = shape_after(shape, Class::Plain);
+            end += 1;
+            end += plain_count(&s[end..]);
         } else if in_run(b) {
-            m = shaped(m, odd_class(b));
-            i += 1;
+            shape = shape_after(shape, odd_class(b));
+            end += 1;
         } else {
-            return Run { end: i, shape: m };
+            break;
         }
     }
-    Run { end: i, shape: m }
+    Run { end, shape }
 }
 
 // Whether the run at the front is this word, of which every byte is one of a run.
@@ -181,64 +215,57 @@ fn is_word(s: &[u8], w: &[u8]) -> bool
     requires { T (every_of (λ b. ltb (byte_class b) 5) w.now) }
     ensures { result ≡ same_bytes (run_of s.now) w.now }
 {
-    let mut i = 0;
-    while i < w.len() {
-        if s.len() <= i {
+    for i in 0..w.len() {
+        if i >= s.len() || s[i] != w[i] {
             return false;
         }
-        if s[i] != w[i] {
-            return false;
-        }
-        i += 1;
     }
-    if s.len() <= i {
-        return true;
-    }
-    !in_run(s[i])
+    s.len() == w.len() || !in_run(s[w.len()])
 }
 
-// The listed word that stands at the front, sought before a run is read. Its kind is 0 if there is none.
-fn listed(s: &[u8]) -> Word
-    ensures { Listed (run_of s.now) result.kind result.size }
+// The listed word that stands at the front: its kind and its length. A test for each, before a run is read: where a
+// read run is sought in a table of words instead, the check of a text takes 19 in a hundred more instructions.
+fn listed(s: &[u8]) -> Option<(Kind, usize)>
+    ensures { MatchOption result (keyword_kind (run_of s.now) ≡ 0) (λ word. IsListed (run_of s.now) (kind_number word.0) word.1) }
 {
     if is_word(s, b"Prefix") {
-        return Word { kind: 4, size: 6 };
+        return Some((Kind::Prefix, 6));
     }
     if is_word(s, b"Ontology") {
-        return Word { kind: 5, size: 8 };
+        return Some((Kind::Ontology, 8));
     }
     if is_word(s, b"Declaration") {
-        return Word { kind: 6, size: 11 };
+        return Some((Kind::Declaration, 11));
     }
     if is_word(s, b"Class") {
-        return Word { kind: 7, size: 5 };
+        return Some((Kind::Class, 5));
     }
     if is_word(s, b"ObjectProperty") {
-        return Word { kind: 8, size: 14 };
+        return Some((Kind::ObjectProperty, 14));
     }
     if is_word(s, b"SubClassOf") {
-        return Word { kind: 9, size: 10 };
+        return Some((Kind::SubClassOf, 10));
     }
     if is_word(s, b"EquivalentClasses") {
-        return Word { kind: 10, size: 17 };
+        return Some((Kind::EquivalentClasses, 17));
     }
     if is_word(s, b"ObjectIntersectionOf") {
-        return Word { kind: 11, size: 20 };
+        return Some((Kind::ObjectIntersectionOf, 20));
     }
     if is_word(s, b"ObjectSomeValuesFrom") {
-        return Word { kind: 12, size: 20 };
+        return Some((Kind::ObjectSomeValuesFrom, 20));
     }
-    Word { kind: 0, size: 0 }
+    None
 }
 
-// How far the first `>` is.
+// Where the first `>` is. A `while`, as a `for` or `position` takes two more instructions for each byte.
 fn close_at(s: &[u8], at: usize) -> usize
     requires { at ≤ length s.now }
     ensures { (result ≡ at + up_to_close (drop at s.now)) × (result ≤ length s.now) }
 {
     let mut i = at;
     while i < s.len() {
-        if s[i] == 62 {
+        if s[i] == b'>' {
             return i;
         }
         i += 1;
@@ -246,19 +273,16 @@ fn close_at(s: &[u8], at: usize) -> usize
     i
 }
 
-fn mark_kind(b: u8) -> u8
-    ensures { (result ≡ get_or mark_kinds (byte_class b) 17) × (result < 18) }
+#[tactic(auto, unfolding(owl::specs::Token::is_plain, owl::specs::Token::byte_class, owl::specs::Token::mark_kinds))]
+fn mark_kind(b: u8) -> Kind
+    ensures { kind_number result ≡ get_or mark_kinds (byte_class b) 17 }
 {
-    if b == 40 {
-        return 1;
+    match b {
+        b'(' => Kind::Open,
+        b')' => Kind::Close,
+        b'=' => Kind::Equals,
+        _ => Kind::Other,
     }
-    if b == 41 {
-        return 2;
-    }
-    if b == 61 {
-        return 3;
-    }
-    17
 }
 
 // Whether the next token is `(`.
@@ -266,78 +290,71 @@ fn opens_after(s: &[u8], at: usize) -> bool
     requires { at ≤ length s.now }
     ensures { result ≡ opens_after (drop at s.now) }
 {
-    let p = skip(s, at);
-    if s.len() <= p {
-        return false;
-    }
-    s[p] == 40
+    s.get(skip(s, at)) == Some(&b'(')
 }
 
 // The kind of a run that is no listed word.
-fn run_kind(s: &[u8], run: Run) -> u8
+#[tactic(auto, unfolding(crate::specs::Keyword::other_kind))]
+fn run_kind(s: &[u8], run: Run) -> Kind
     requires { run.end ≤ length s.now }
-    ensures { (result ≡ other_kind run.shape (opens_after (drop run.end s.now))) × (result < 18) }
+    ensures { kind_number result ≡ other_kind (shape_number run.shape) (opens_after (drop run.end s.now)) }
 {
-    if run.shape == 3 {
-        return 15;
+    match run.shape {
+        Shape::PrefixName => Kind::PrefixName,
+        Shape::Short => Kind::Short,
+        Shape::Neither => Kind::Other,
+        Shape::Empty | Shape::Lone | Shape::Word if opens_after(s, run.end) => Kind::Unlisted,
+        Shape::Empty | Shape::Lone | Shape::Word => Kind::Other,
     }
-    if run.shape == 4 {
-        return 13;
-    }
-    if run.shape == 5 {
-        return 17;
-    }
-    if opens_after(s, run.end) {
-        return 16;
-    }
-    17
 }
 
+// The token that stands at a byte or after it.
 pub fn token_at(s: &[u8], at: usize) -> Token
     requires { at ≤ length s.now }
-    ensures { (result.kind ≡ kind_at s.now at) × (result.place ≡ place_at s.now at) × (result.end ≡ end_at s.now at) × (result.end ≤ length s.now) × (result.kind < 18) }
+    ensures { (kind_number result.kind ≡ kind_at s.now at) × (result.place ≡ place_at s.now at) × (result.end ≡ end_at s.now at) × (result.end ≤ length s.now) }
 {
     let place = skip(s, at);
-    if s.len() <= place {
+    if place == s.len() {
         return Token {
-            kind: 0,
+            kind: Kind::End,
             place,
             end: place,
         };
     }
     let b = s[place];
     if in_run(b) {
-        let word = listed(&s[place..]);
-        if word.kind != 0 {
+        if let Some((kind, size)) = listed(&s[place..]) {
             return Token {
-                kind: word.kind,
+                kind,
                 place,
-                end: place + word.size,
+                end: place + size,
             };
         }
         let run = run_at(s, place);
-        let end = run.end;
-        let kind = run_kind(s, run);
-        return Token { kind, place, end };
-    }
-    if b == 60 {
-        let close = close_at(s, place + 1);
-        if close < s.len() {
-            return Token {
-                kind: 14,
-                place,
-                end: close + 1,
-            };
-        }
         return Token {
-            kind: 17,
+            kind: run_kind(s, run),
+            place,
+            end: run.end,
+        };
+    }
+    if b != b'<' {
+        return Token {
+            kind: mark_kind(b),
+            place,
+            end: place + 1,
+        };
+    }
+    let close = close_at(s, place + 1);
+    if close == s.len() {
+        return Token {
+            kind: Kind::Other,
             place,
             end: place + 1,
         };
     }
     Token {
-        kind: mark_kind(b),
+        kind: Kind::Full,
         place,
-        end: place + 1,
+        end: close + 1,
     }
 }

@@ -2,6 +2,7 @@
 --
 --   alone_start, alone_next, alone_whole == each role under itself alone, one more at a time
 --   widened_start, widened_hit, widened_miss, widened_whole == one role row more, role by role
+--   widened_here, widened_stays          == the same in place
 --   under_start, under_next, under_turn, under_whole == from the last role row to the first
 --   under_many, under_bit                == how many masks there are, and a bit of them, by the roles
 --   row_low                              == the roles of a readable table's role rows have a mask
@@ -84,6 +85,13 @@ module _ (under : List ℕ) (n w : ℕ) where
     says = says_kept (more under n w) i masks f.says (λ r a. ap (bit r) (f.rest i (omega arith)) ∙ sym (ap (λ (b : Bool). bit r (get_or under i 0) || b) (ap (λ (b : Bool). bit r (get_or under n 0) && b) e ∙ and-false (bit r (get_or under n 0))) ∙ or-false (bit r (get_or under i 0))));
     rest = λ s a. f.rest s (omega arith);
   }
+
+  -- the same where the masks are changed in their place: the mask at hand is still as it was
+  pub widened_here : (i : ℕ) (masks : List ℕ) → i < max_roles → bit w (get_or masks i 0) ≡ true → WidenedTo under n w i masks → WidenedTo under n w (i + 1) (set masks i (bit_or (get_or masks i 0) (get_or under n 0)))
+  widened_here i masks h e f = rw (f.rest i (omega arith)) (widened_hit i masks h (sym (ap (bit w) (f.rest i (omega arith))) ∙ e) f)
+
+  pub widened_stays : (i : ℕ) (masks : List ℕ) → bit w (get_or masks i 0) ≡ false → WidenedTo under n w i masks → WidenedTo under n w (i + 1) masks
+  widened_stays i masks e f = widened_miss i masks (sym (ap (bit w) (f.rest i (omega arith))) ∙ e) f
 
   pub widened_whole : (i : ℕ) (masks : List ℕ) → max_roles ≤ i → WidenedTo under n w i masks → Widened under n w masks
   unfolding Widened

@@ -4,3 +4,5 @@ pub mod Spelling
 pub mod SpellingLaws
 pub mod Given
 pub mod Step
+pub mod Penned
+pub mod PennedLaws

@@ -2,22 +2,23 @@
 --
 --   some_within, filler_by_lem, entry_by_lem == whether a code is a filler, an entry, by its kind
 --   stops                        == a refusal as a step
---   stop_code, next_code         == a code that is refused, and one that is read
 --   step_refused, step_got       == what was answered, by the step
 --   then_last                    == a step whose last part cannot fail
---   turn_start, turn_stop, turn_next, turn_end == the turns of a loop over many of a kind
+--   steps_many                   == many of a kind, as steps one after the other
+--   turn_stop, turn_next, turn_end == the turns of a loop of steps
 --   and_stop, and_on             == the test of two, by the one at which it ends
---   code_.., pair_..             == answers of the functions that read one code, and two
+--   code_short, code_stop, code_next, code_is == the step over one code, and that it is how the code is read
+--   pair_..                      == answers of the functions that read two
 --   version_.., role_count_.., end_by, header_.., line_.., body_.., check_.. == answers of the function so named
-use mathlib.Core.Path.{◌≡◌, refl, sym, ap, ap₂, ◌∙◌}
-use mathlib.Core.Bool.{Bool, true, false, ◌&&◌, ◌||◌, cond, true≢false, and-true, and-false}
+use mathlib.Core.Path.{◌≡◌, refl, sym, ap, ap₂, subst, ◌∙◌}
+use mathlib.Core.Bool.{Bool, true, false, ◌&&◌, ◌||◌, cond, and-true, and-false}
 use mathlib.Core.List.{List, ◌∷◌}
 use mathlib.Core.Option.{Option, none, some}
-use Prim.Native.Nat.{ℕ, suc, ◌+◌, ◌-◌, ◌≤◌, ◌<◌}
+use Prim.Native.Nat.{ℕ, zero, suc, ◌+◌, ◌-◌, ◌≤◌, ◌<◌}
 use native.Mathlib.Omega.{arith}
 use lib.Dec.{eqb, ltb}
 use lib.ListN.{length, get_or-eq_default}
-use borrow.Author.Tests.{lt-ltb, le-ltb, eq-eqb, ne_eqb}
+use borrow.Author.Tests.{lt-ltb, le-ltb, le-leb, lt-leb, eq-eqb, ne_eqb}
 use Rattle.el.specs.Roles.{RoleRow}
 use Rattle.el.specs.Table.{Entry, Row, Line, Table}
 use Rattle.answer.specs.declared.Answer.{Answer}
@@ -25,13 +26,12 @@ use Rattle.answer.specs.declared.Answer.TheVariants.{EndsEarly, NotAllowed, Byte
 use Rattle.bounds.specs.Bounds.{bounds, max_left}
 use Rattle.table.specs.declared.Kind.{Kind}
 use Rattle.table.specs.declared.Header.{Header}
-use Rattle.table.specs.declared.Step.TheVariants.{Next, Stop}
-use Rattle.table.specs.declared.Verdict.TheVariants.{Refused, Readable}
+use Rattle.std.specs.Prelude.{Ok, Err, Result, T}
 use Rattle.table.specs.Code.{kind_of, within, filler_of_kind, filler_of, entry_of_kind, entry_of}
-use Rattle.table.specs.Reading.{Read, refused, got, and_then, or_refused, read_many, read_pair, byte_at, read_code, version_place, header_length, role_rows_place, has_role_rows, header_end, role_count, header_of, marked, version_known, read_counts, then_there, read_header, read_role_rows, read_rows, read_entry, read_entries, then_right, read_line, read_lines, then_end, then_lines, then_rows, read_body, whole, from_header, reading}
-use Rattle.table.specs.Step.{is_some, step_of, verdict_of}
+use Rattle.table.specs.Reading.{Read, refused, got, refuse_if, and_then, or_refused, missing, read_many, read_pair, byte_at, read_code, version_place, header_length, role_rows_place, has_role_rows, header_end, role_count, header_of, marked, version_known, read_counts, then_there, read_header, read_role_rows, read_rows, read_entry, read_entries, then_right, read_line, read_lines, then_end, then_lines, then_rows, read_body, whole, from_header, Reading, refusal, reading, is_readable}
+use Rattle.table.specs.Step.{is_some, step_of, step_code, on_from, steps}
 use Rattle.table.specs.ManyLaws.{if_passed, if_refused}
-use Rattle.table.specs.ReadLaws.{code_answer, pair_stop, pair_next, line_opened, header_counts, header_read, header_long}
+use Rattle.table.specs.ReadLaws.{pair_stop, pair_next, line_opened, header_counts, header_read, header_long}
 
 ------------------------------------------------------------------ codes
 
@@ -53,29 +53,19 @@ entry_by_lem c e v b k i = ap (λ (x : Kind). is_some (entry_of_kind c e v x)) (
 
 ------------------------------------------------------------------ steps
 
-pub stops : {A : Type 0} {x : Read A} {why : Answer} → x ≡ refused why → Stop why ≡ step_of x
+pub stops : {A : Type 0} {x : Read A} {why : Answer} → x ≡ refused why → Err why ≡ step_of x
 unfolding step_of
 stops e = ap step_of (sym e)
 
-pub stop_code : {A : Type 0} (at : ℕ) (o : Option A) → is_some o ≡ false → Stop (NotAllowed at) ≡ step_of (or_refused at o)
-unfolding step_of is_some
-stop_code at none e = refl
-stop_code at (some a) e = absurd (true≢false e)
-
-pub next_code : {A : Type 0} (at : ℕ) (o : Option A) → is_some o ≡ true → Next (at + 1) ≡ step_of (or_refused at o)
-unfolding step_of is_some
-next_code at none e = absurd (true≢false (sym e))
-next_code at (some a) e = refl
-
-next_stop : (at : ℕ) (why : Answer) → Next at ≡ Stop why → ⊥
+next_stop : (at : ℕ) (why : Answer) → Ok at ≡ Err why → ⊥
 next_stop at why q = let z : ◌≡◌ {A = ℕ} 0 1 = cc in omega arith
 
-step_refused : {A : Type 0} (x : Read A) (why : Answer) → step_of x ≡ Stop why → x ≡ refused why
+step_refused : {A : Type 0} (x : Read A) (why : Answer) → step_of x ≡ Err why → x ≡ refused why
 unfolding step_of
 step_refused (refused was) why e = let a : was ≡ why = cc in ap refused a
 step_refused (got a at) why e = absurd (next_stop at why e)
 
-step_got : {A : Type 0} (x : Read A) (at : ℕ) → step_of x ≡ Next at → (a : A) × (x ≡ got a at)
+step_got : {A : Type 0} (x : Read A) (at : ℕ) → step_of x ≡ Ok at → (a : A) × (x ≡ got a at)
 unfolding step_of
 step_got (refused why) at e = absurd (next_stop at why (sym e))
 step_got (got a end) at e = let w : end ≡ at = cc in (a, ap (got a) w)
@@ -87,26 +77,33 @@ then_last (got a at) f = refl
 
 -- many of a kind, one after the other
 module _ {A : Type 0} (one : ℕ → Read A) where
-  pub turn_start : (count at : ℕ) → step_of (read_many one count at) ≡ step_of (read_many one (count - 0) at)
-  turn_start count at = ap (λ (k : ℕ). step_of (read_many one k at)) (let e : count ≡ count - 0 = omega arith in e)
+  then_steps : (k : ℕ) → ((next : ℕ) → steps (λ at. step_of (one at)) k next ≡ step_of (read_many one k next))
+      → (x : Read A) → on_from (step_of x) (steps (λ at. step_of (one at)) k) ≡ step_of (and_then x (λ a next. and_then (read_many one k next) (λ l end. got (a ∷ l) end)))
+  unfolding step_of
+  then_steps k h (refused why) = refl
+  then_steps k h (got a next) = h next ∙ sym (then_last (read_many one k next) (λ l. a ∷ l))
 
-  pub turn_end : (count k at : ℕ) → count ≤ k → step_of (read_many one (count - k) at) ≡ Next at
-  unfolding step_of read_many
-  turn_end count k at h = ap (λ (k : ℕ). step_of (read_many one k at)) (let e : count - k ≡ 0 = omega arith in e)
+  pub steps_many : (count at : ℕ) → steps (λ at. step_of (one at)) count at ≡ step_of (read_many one count at)
+  unfolding steps step_of read_many
+  steps_many zero at = refl
+  steps_many (suc k) at = then_steps k (λ next. steps_many k next) (one at)
 
-  module _ (count k at : ℕ) (h : k < count) where
-    abbrev then_many : A → ℕ → Read (List A)
-    then_many a next = and_then (read_many one (count - (k + 1)) next) (λ l end. got (a ∷ l) end)
+-- the turns of a loop of steps
+module _ (step : ℕ → Result ℕ Answer) (count k at : ℕ) where
+  pub turn_end : count ≤ k → steps step (count - k) at ≡ Ok at
+  unfolding steps
+  turn_end h = ap (λ (k : ℕ). steps step k at) (let e : count - k ≡ 0 = omega arith in e)
 
-    turned : (x : Read A) → one at ≡ x → read_many one (count - k) at ≡ and_then x then_many
-    unfolding read_many
-    turned x q = ap (λ (k : ℕ). read_many one k at) (let e : count - k ≡ suc (count - (k + 1)) = omega arith in e) ∙ ap (λ (x : Read A). and_then x then_many) q
+  module _ (h : k < count) where
+    turned : steps step (count - k) at ≡ on_from (step at) (steps step (count - (k + 1)))
+    unfolding steps
+    turned = ap (λ (k : ℕ). steps step k at) (let e : count - k ≡ suc (count - (k + 1)) = omega arith in e)
 
-    pub turn_stop : (why : Answer) → step_of (one at) ≡ Stop why → step_of (read_many one (count - k) at) ≡ Stop why
-    turn_stop why q = sym (stops (turned _ (step_refused (one at) why q)))
+    pub turn_stop : (why : Answer) → step at ≡ Err why → steps step (count - k) at ≡ Err why
+    turn_stop why q = turned ∙ ap (λ (x : Result ℕ Answer). on_from x (steps step (count - (k + 1)))) q
 
-    pub turn_next : (next : ℕ) → step_of (one at) ≡ Next next → step_of (read_many one (count - k) at) ≡ step_of (read_many one (count - (k + 1)) next)
-    turn_next next q = let g = step_got (one at) next q in ap step_of (turned _ g.1) ∙ then_last (read_many one (count - (k + 1)) next) (λ l. g.0 ∷ l)
+    pub turn_next : (next : ℕ) → step at ≡ Ok next → steps step (count - k) at ≡ steps step (count - (k + 1)) next
+    turn_next next q = turned ∙ ap (λ (x : Result ℕ Answer). on_from x (steps step (count - (k + 1)))) q
 
 ------------------------------------------------------------------ the header
 
@@ -151,30 +148,46 @@ module _ (s : List ℕ) (k : Header) (same : k ≡ header_of s) (long : header_l
   header_then : (x : Read Header) → read_counts bounds k ≡ x → read_header bounds s ≡ and_then x (then_there s)
   header_then x q = header_counts bounds s long mark version ∙ ap (λ (x : Read Header). and_then x (then_there s)) (ap (read_counts bounds) (sym same) ∙ q)
 
-  pub header_stop : (why : Answer) → step_of (read_counts bounds k) ≡ Stop why → Stop why ≡ step_of (read_header bounds s)
+  pub header_stop : (why : Answer) → step_of (read_counts bounds k) ≡ Err why → Err why ≡ step_of (read_header bounds s)
   header_stop why q = stops (header_then _ (step_refused (read_counts bounds k) why q))
 
-  pub header_cut : (end : ℕ) → step_of (read_counts bounds k) ≡ Next end → length s < end → Stop (EndsEarly (length s)) ≡ step_of (read_header bounds s)
+  pub header_cut : (end : ℕ) → step_of (read_counts bounds k) ≡ Ok end → length s < end → Err (EndsEarly (length s)) ≡ step_of (read_header bounds s)
   header_cut end q w = stops (header_then _ (step_got (read_counts bounds k) end q).1 ∙ if_refused _ _ _ (lt-ltb (length s) end w))
 
-  pub header_done : (end : ℕ) → step_of (read_counts bounds k) ≡ Next end → end ≤ length s → Next end ≡ step_of (read_header bounds s)
+  pub header_done : (end : ℕ) → step_of (read_counts bounds k) ≡ Ok end → end ≤ length s → Ok end ≡ step_of (read_header bounds s)
   unfolding step_of
   header_done end q w = ap step_of (sym (header_then _ (step_got (read_counts bounds k) end q).1 ∙ if_passed _ _ _ (le-ltb (length s) end w)))
 
 ------------------------------------------------------------------ codes, pairs, lines
 
-module _ {A : Type 0} (s : List ℕ) (of : ℕ → Option A) (at : ℕ) where
-  pub code_stop : at < length s → is_some (of (byte_at s at)) ≡ false → Stop (NotAllowed at) ≡ step_of (read_code s of at)
-  code_stop l w = stop_code at _ w ∙ ap step_of (sym (code_answer s of at l _ refl))
+module _ (s : List ℕ) (allows : ℕ → Bool) (at : ℕ) where
+  pub code_short : length s ≤ at → Err (EndsEarly (length s)) ≡ step_code s allows at
+  unfolding step_code
+  code_short w = rw (le-leb (length s) at w)
 
-  pub code_next : at < length s → is_some (of (byte_at s at)) ≡ true → Next (at + 1) ≡ step_of (read_code s of at)
-  code_next l w = next_code at _ w ∙ ap step_of (sym (code_answer s of at l _ refl))
+  pub code_stop : at < length s → allows (byte_at s at) ≡ false → Err (NotAllowed at) ≡ step_code s allows at
+  unfolding step_code
+  code_stop l q = rw (lt-leb (length s) at l, q)
+
+  pub code_next : at < length s → allows (byte_at s at) ≡ true → Ok (at + 1) ≡ step_code s allows at
+  unfolding step_code
+  code_next l q = rw (lt-leb (length s) at l, q)
+
+-- a step over a code is how the code is read
+pub code_is : {A : Type 0} (s : List ℕ) (of : ℕ → Option A) (at : ℕ) → step_code s (λ b. is_some (of b)) at ≡ step_of (read_code s of at)
+unfolding step_code step_of read_code is_some
+code_is {A = A} s of at = go (missing s at) (of (byte_at s at))
+  where
+    go : (m : Bool) (o : Option A) → cond m (Err (EndsEarly (length s))) (cond (is_some o) (Ok (at + 1)) (Err (NotAllowed at))) ≡ step_of (refuse_if m (EndsEarly (length s)) (or_refused at o))
+    go true o = refl
+    go false none = refl
+    go false (some a) = refl
 
 module _ {A B C : Type 0} (one : ℕ → Read A) (two : ℕ → Read B) (make : A → B → C) (at : ℕ) where
-  pub pair_first : (why : Answer) → step_of (one at) ≡ Stop why → Stop why ≡ step_of (read_pair one two make at)
+  pub pair_first : (why : Answer) → step_of (one at) ≡ Err why → Err why ≡ step_of (read_pair one two make at)
   pair_first why q = stops (pair_stop one two make at why (step_refused (one at) why q))
 
-  pub pair_second : (next : ℕ) → step_of (one at) ≡ Next next → step_of (two next) ≡ step_of (read_pair one two make at)
+  pub pair_second : (next : ℕ) → step_of (one at) ≡ Ok next → step_of (two next) ≡ step_of (read_pair one two make at)
   pair_second next q = let g = step_got (one at) next q in sym (ap step_of (pair_next one two make at g.0 next g.1) ∙ then_last (two next) (make g.0))
 
 module _ (s : List ℕ) (h : Header) (at : ℕ) where
@@ -182,10 +195,10 @@ module _ (s : List ℕ) (h : Header) (at : ℕ) where
     line_then : (x : Read (List Entry)) → read_entries s h count (at + 1) ≡ x → read_line bounds s h at ≡ and_then x (then_right s h)
     line_then x q = line_opened bounds s h at l few ∙ ap (λ (x : Read (List Entry)). and_then x (then_right s h)) (ap (λ (k : ℕ). read_entries s h k (at + 1)) (sym same) ∙ q)
 
-    pub line_stop : (why : Answer) → step_of (read_entries s h count (at + 1)) ≡ Stop why → Stop why ≡ step_of (read_line bounds s h at)
+    pub line_stop : (why : Answer) → step_of (read_entries s h count (at + 1)) ≡ Err why → Err why ≡ step_of (read_line bounds s h at)
     line_stop why q = stops (line_then _ (step_refused (read_entries s h count (at + 1)) why q))
 
-    pub line_right_is : (next : ℕ) → step_of (read_entries s h count (at + 1)) ≡ Next next → step_of (read_entry s h next) ≡ step_of (read_line bounds s h at)
+    pub line_right_is : (next : ℕ) → step_of (read_entries s h count (at + 1)) ≡ Ok next → step_of (read_entry s h next) ≡ step_of (read_line bounds s h at)
     line_right_is next q =
         let g = step_got (read_entries s h count (at + 1)) next q in
         sym (ap step_of (line_then _ g.1) ∙ then_last (read_entry s h next) (λ right. record { left = g.0; right = right }))
@@ -197,44 +210,44 @@ module _ (s : List ℕ) (h : Header) (role_rows : ℕ) (same_role_rows : role_ro
   unfolding read_body
   body_then x q = ap (λ (x : Read (List RoleRow)). and_then x (then_rows bounds s h)) (sym (ap₂ (read_role_rows s h) same_role_rows same_from) ∙ q)
 
-  pub body_role_rows : (why : Answer) → step_of (read_role_rows s h role_rows from) ≡ Stop why → Stop why ≡ step_of (read_body bounds s h)
+  pub body_role_rows : (why : Answer) → step_of (read_role_rows s h role_rows from) ≡ Err why → Err why ≡ step_of (read_body bounds s h)
   body_role_rows why q = stops (body_then _ (step_refused (read_role_rows s h role_rows from) why q))
 
-  module _ (first : ℕ) (past_role_rows : step_of (read_role_rows s h role_rows from) ≡ Next first) (rows : ℕ) (same_rows : rows ≡ h.e) where
+  module _ (first : ℕ) (past_role_rows : step_of (read_role_rows s h role_rows from) ≡ Ok first) (rows : ℕ) (same_rows : rows ≡ h.e) where
     rows_then : (x : Read (List Row)) → read_rows s h rows first ≡ x → (k : List RoleRow) × (read_body bounds s h ≡ and_then x (then_lines bounds s h k))
     rows_then x q =
         let g = step_got (read_role_rows s h role_rows from) first past_role_rows in
         (g.0, body_then _ g.1 ∙ ap (λ (x : Read (List Row)). and_then x (then_lines bounds s h g.0)) (ap (λ (k : ℕ). read_rows s h k first) (sym same_rows) ∙ q))
 
-    pub body_rows : (why : Answer) → step_of (read_rows s h rows first) ≡ Stop why → Stop why ≡ step_of (read_body bounds s h)
+    pub body_rows : (why : Answer) → step_of (read_rows s h rows first) ≡ Err why → Err why ≡ step_of (read_body bounds s h)
     body_rows why q = stops (rows_then _ (step_refused (read_rows s h rows first) why q)).1
 
-    module _ (next : ℕ) (past_rows : step_of (read_rows s h rows first) ≡ Next next) (lines : ℕ) (same_lines : lines ≡ h.m) where
+    module _ (next : ℕ) (past_rows : step_of (read_rows s h rows first) ≡ Ok next) (lines : ℕ) (same_lines : lines ≡ h.m) where
       lines_then : (x : Read (List Line)) → read_lines bounds s h lines next ≡ x → (k : List RoleRow) × (l : List Row) × (read_body bounds s h ≡ and_then x (then_end bounds s h k l))
       lines_then x q =
           let g = step_got (read_rows s h rows first) next past_rows in
           let r = rows_then _ g.1 in
           (r.0, g.0, r.1 ∙ ap (λ (x : Read (List Line)). and_then x (then_end bounds s h r.0 g.0)) (ap (λ (k : ℕ). read_lines bounds s h k next) (sym same_lines) ∙ q))
 
-      pub body_lines : (why : Answer) → step_of (read_lines bounds s h lines next) ≡ Stop why → Stop why ≡ step_of (read_body bounds s h)
+      pub body_lines : (why : Answer) → step_of (read_lines bounds s h lines next) ≡ Err why → Err why ≡ step_of (read_body bounds s h)
       body_lines why q = stops (lines_then _ (step_refused (read_lines bounds s h lines next) why q)).2
 
-      module _ (end : ℕ) (past_lines : step_of (read_lines bounds s h lines next) ≡ Next end) where
-        pub body_after : end < length s → Stop (BytesAfter end) ≡ step_of (read_body bounds s h)
+      module _ (end : ℕ) (past_lines : step_of (read_lines bounds s h lines next) ≡ Ok end) where
+        pub body_after : end < length s → Err (BytesAfter end) ≡ step_of (read_body bounds s h)
         body_after w = stops ((lines_then _ (step_got (read_lines bounds s h lines next) end past_lines).1).2 ∙ if_refused _ _ _ (lt-ltb end (length s) w))
 
-        pub body_all : length s ≤ end → Next end ≡ step_of (read_body bounds s h)
+        pub body_all : length s ≤ end → Ok end ≡ step_of (read_body bounds s h)
         unfolding step_of
         body_all w = ap step_of (sym ((lines_then _ (step_got (read_lines bounds s h lines next) end past_lines).1).2 ∙ if_passed _ _ _ (le-ltb end (length s) w)))
 
 ------------------------------------------------------------------ the whole
 
 module _ (s : List ℕ) where
-  pub check_header : (why : Answer) → step_of (read_header bounds s) ≡ Stop why → Refused why ≡ verdict_of (reading s)
-  unfolding reading verdict_of
-  check_header why q = ap (λ (x : Read Header). verdict_of (from_header bounds s x)) (sym (step_refused (read_header bounds s) why q))
+  pub check_header : (why : Answer) → step_of (read_header bounds s) ≡ Err why → reading s ≡ refusal why
+  unfolding reading
+  check_header why q = ap (from_header bounds s) (step_refused (read_header bounds s) why q)
 
-  module _ (at : ℕ) (past_header : step_of (read_header bounds s) ≡ Next at) where
+  module _ (at : ℕ) (past_header : step_of (read_header bounds s) ≡ Ok at) where
     pub header_in : header_length ≤ length s
     header_in =
         let g = step_got (read_header bounds s) at past_header in
@@ -250,10 +263,8 @@ module _ (s : List ℕ) where
         ap (from_header bounds s) g.1 ∙ ap (λ (h : Header). whole h (read_body bounds s h)) e ∙ ap (whole k) q
 
     module _ (k : Header) (same : k ≡ header_of s) where
-      pub check_body : (why : Answer) → step_of (read_body bounds s k) ≡ Stop why → Refused why ≡ verdict_of (reading s)
-      unfolding verdict_of
-      check_body why q = ap verdict_of (sym (check_then k same _ (step_refused (read_body bounds s k) why q)))
+      pub check_body : (why : Answer) → step_of (read_body bounds s k) ≡ Err why → reading s ≡ refusal why
+      check_body why q = check_then k same _ (step_refused (read_body bounds s k) why q)
 
-      pub check_all : (end : ℕ) → step_of (read_body bounds s k) ≡ Next end → Readable ≡ verdict_of (reading s)
-      unfolding verdict_of
-      check_all end q = ap verdict_of (sym (check_then k same _ (step_got (read_body bounds s k) end q).1))
+      pub check_all : (end : ℕ) → step_of (read_body bounds s k) ≡ Ok end → T (is_readable (reading s))
+      check_all end q = subst (λ (r : Reading). T (is_readable r)) (sym (check_then k same _ (step_got (read_body bounds s k) end q).1)) tt

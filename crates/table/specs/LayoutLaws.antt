@@ -20,7 +20,7 @@ use Rattle.el.specs.TableLaws.{all_declared}
 use Rattle.answer.specs.declared.Answer.{Answer}
 use Rattle.bounds.specs.Bounds.{bounds, max_left}
 use Rattle.table.specs.declared.Header.{Header}
-use Rattle.table.specs.declared.Verdict.TheVariants.{Refused, Readable}
+use Rattle.std.specs.Prelude.{Result, Ok, Err}
 use Rattle.table.specs.Code.{filler_of, entry_of}
 use Rattle.table.specs.CodeLaws.{role_code}
 use Rattle.table.specs.Reading.{got, byte_at, header_end, header_of, role_row_start, wider_place, rows_at, row_start, filler_place, read_role_row, read_row, read_entry, read_line, table_with, Reading, refusal, readable, reading, the_table, table_of, is_readable}
@@ -173,14 +173,14 @@ layout s ok = go (reading s) refl ok
     go (refusal why) e ok = absurd ok
     go (readable h t) e ok = readable_layout s h t e
 
-pub refused_readable : (why : Answer) → Refused why ≡ Readable → ⊥
+pub refused_readable : (why : Answer) → ◌≡◌ {A = Result (Unit {0}) Answer} (Err why) (Ok tt) → ⊥
 refused_readable why q = let z : ◌≡◌ {A = ℕ} 0 1 = cc in omega arith
 
-pub readable_is : (s : List ℕ) → verdict_of (reading s) ≡ Readable → T (is_readable (reading s))
+pub readable_is : (s : List ℕ) → verdict_of (reading s) ≡ Ok tt → T (is_readable (reading s))
 unfolding verdict_of
 readable_is s q = go (reading s) q
   where
-    go : (x : Reading) → verdict_of x ≡ Readable → T (is_readable x)
+    go : (x : Reading) → verdict_of x ≡ Ok tt → T (is_readable x)
     go (refusal why) q = absurd (refused_readable why q)
     go (readable h t) q = tt
 

@@ -6,11 +6,13 @@
 // node, level and walk know neither where these stand nor of which version a table is.
 #![tactic(auto)]
 
-ghost use Rattle.std.specs.Prelude.{◌≡◌, ◌≤◌, ◌<◌, T, length, get_or};
+ghost use Rattle.std.specs.Prelude.{◌≡◌, Bool, ℕ, ◌≤◌, ◌<◌, T, length, get_or, Result, IfOk, IfErr};
 ghost use Rattle.table.specs.Code.{kind_of, role_of, filler_of, entry_of};
 ghost use Rattle.bounds.specs.Bounds.{bounds};
-ghost use Rattle.table.specs.Reading.{header_length, has_role_rows, header_end, role_count, rows_at, marked, version_known, header_of, read_counts, read_header, read_role, read_filler, read_entry, read_role_row, read_role_rows, read_row, read_rows, read_entries, read_line, read_lines, read_body, reading, table_of, is_readable};
-ghost use Rattle.table.specs.Step.{is_some, step_of, verdict_of};
+ghost use Rattle.table.specs.Reading.{header_length, has_role_rows, header_end, role_count, rows_at, marked, version_known, header_of, read_counts, read_header, read_role, read_filler, read_entry, read_role_row, read_role_rows, read_row, read_rows, read_entries, read_line, read_lines, read_body, refusal, reading, table_of, is_readable};
+ghost use Rattle.answer.specs.declared.Answer.{Answer};
+ghost use Rattle.answer.specs.declared.Answer.TheVariants.{OverBound};
+ghost use Rattle.table.specs.Step.{is_some, step_of, step_code, steps};
 ghost use Rattle.el.specs.Table.{constant, row_at};
 ghost use Rattle.table.specs.Layout.{role_row_at, line_start, IsRowFiller, IsEntryCode, LineBegins, AtLine};
 
@@ -37,8 +39,15 @@ pub const HEADER: usize = 10;
 
 pub const ROLE_ROWS: usize = 10;
 
+// How many bytes the longest readable table has.
+pub const LONGEST: usize = HEADER
+    + 1
+    + 2 * MAX_ROLE_ROWS
+    + 2 * MAX_RESTRICTIONS
+    + MAX_LINES * (MAX_LEFT + 2);
+
 // The version and the counts of a table: constants c, roles r, variables v, restrictions e, lines m, role rows q.
-#[derive(Clone, Copy)]
+#[derive(Clone, Copy, Debug, Default, PartialEq, Eq)]
 pub struct Header {
     pub version: u8,
     pub c: u8,
@@ -50,7 +59,7 @@ pub struct Header {
 }
 
 // What a code byte stands for, by its range alone.
-#[derive(Clone, Copy)]
+#[derive(Clone, Copy, Debug, PartialEq, Eq)]
 pub enum Kind {
     Top,
     Constant(u8),
@@ -59,18 +68,11 @@ pub enum Kind {
     Other,
 }
 
-// A step of the reader: the place after what was read, or a refusal.
+// The bytes of a readable table.
 #[derive(Clone, Copy)]
-pub enum Step {
-    Next(usize),
-    Stop(Answer),
-}
-
-// The verdict on a whole table: a refusal, or readable.
-#[derive(Clone, Copy)]
-pub enum Verdict {
-    Refused(Answer),
-    Readable,
+pub struct Readable<'a> {
+    pub bytes: &'a [u8],
+    ghost reads: { T (is_readable (reading bytes.now)) },
 }
 
 pub fn kind_of(code: u8) -> Kind
@@ -118,31 +120,18 @@ fn entry_ok(code: u8, header: Header) -> bool
     }
 }
 
-// A byte as a place or a count.
-pub fn wide(x: u8) -> usize
-    ensures { result ≡ x }
-{
-    x as usize
-}
-
 fn has_mark(table: &[u8]) -> bool
     requires { header_length ≤ length table.now }
     ensures { result ≡ marked table.now }
 {
-    table[0] == 0x56 && (table[1] == 0x4F && table[2] == 0x43)
+    table.starts_with(b"VOC")
 }
 
 fn is_version_known(table: &[u8]) -> bool
     requires { header_length ≤ length table.now }
     ensures { result ≡ version_known table.now }
 {
-    if table[4] != 0 {
-        return false;
-    }
-    if table[VERSION] == 1 {
-        return true;
-    }
-    table[VERSION] == 2
+    matches!(table[VERSION], 1 | 2) && table[4] == 0
 }
 
 // Do tables of this version have role rows?
@@ -157,9 +146,10 @@ fn header_end(header: Header) -> usize
     ensures { result ≡ header_end header }
 {
     if has_role_rows(header.version) {
-        return HEADER + 1;
+        HEADER + 1
+    } else {
+        HEADER
     }
-    HEADER
 }
 
 // The count of role rows; 0 where there is none.
@@ -167,13 +157,11 @@ fn role_count(table: &[u8]) -> u8
     requires { header_length ≤ length table.now }
     ensures { result ≡ role_count table.now }
 {
-    if table.len() <= ROLE_ROWS {
-        return 0;
+    if table.len() > ROLE_ROWS && has_role_rows(table[VERSION]) {
+        table[ROLE_ROWS]
+    } else {
+        0
     }
-    if has_role_rows(table[VERSION]) {
-        return table[ROLE_ROWS];
-    }
-    0
 }
 
 // The version and the counts of a table of at least ten bytes.
@@ -181,7 +169,6 @@ pub fn header_of(table: &[u8]) -> Header
     requires { header_length ≤ length table.now }
     ensures { result ≡ header_of table.now }
 {
-    let q = role_count(table);
     Header {
         version: table[VERSION],
         c: table[CONSTANTS],
@@ -189,329 +176,263 @@ pub fn header_of(table: &[u8]) -> Header
         v: table[VARIABLES],
         e: table[RESTRICTIONS],
         m: table[LINES],
-        q,
+        q: role_count(table),
     }
+}
+
+// A count that is over its bound is refused at its byte.
+fn within(count: usize, most: usize, at: usize) -> Result<(), Answer>
+    ensures ok { IfOk result (λ _. count ≤ most) }
+    ensures err { IfErr result (λ why. (most < count) × (why ≡ OverBound at)) }
+{
+    if most < count {
+        return Err(Answer::OverBound(at));
+    }
+    Ok(())
 }
 
 // Are the counts within their bounds?
-fn read_counts(header: Header) -> Step
+fn read_counts(header: Header) -> Result<usize, Answer>
     ensures { result ≡ step_of (read_counts bounds header) }
 {
-    if MAX_CONSTANTS < wide(header.c) {
-        return Step::Stop(Answer::OverBound(CONSTANTS));
-    }
-    if MAX_ROLES < wide(header.r) {
-        return Step::Stop(Answer::OverBound(ROLES));
-    }
-    if MAX_VARIABLES < wide(header.v) {
-        return Step::Stop(Answer::OverBound(VARIABLES));
-    }
-    if MAX_RESTRICTIONS < wide(header.e) {
-        return Step::Stop(Answer::OverBound(RESTRICTIONS));
-    }
-    if MAX_ATOMS < wide(header.c) + wide(header.e) {
-        return Step::Stop(Answer::OverBound(RESTRICTIONS));
-    }
-    if MAX_LINES < wide(header.m) {
-        return Step::Stop(Answer::OverBound(LINES));
-    }
-    if MAX_ROLE_ROWS < wide(header.q) {
-        return Step::Stop(Answer::OverBound(ROLE_ROWS));
-    }
-    Step::Next(header_end(header))
+    let c = usize::from(header.c);
+    let e = usize::from(header.e);
+    within(c, MAX_CONSTANTS, CONSTANTS)?;
+    within(usize::from(header.r), MAX_ROLES, ROLES)?;
+    within(usize::from(header.v), MAX_VARIABLES, VARIABLES)?;
+    within(e, MAX_RESTRICTIONS, RESTRICTIONS)?;
+    within(c + e, MAX_ATOMS, RESTRICTIONS)?;
+    within(usize::from(header.m), MAX_LINES, LINES)?;
+    within(usize::from(header.q), MAX_ROLE_ROWS, ROLE_ROWS)?;
+    Ok(header_end(header))
 }
 
 // The mark, the version and the counts. Where the byte of q is missing, q is 0, so its bound may be judged first.
-fn read_header(table: &[u8]) -> Step
+fn read_header(table: &[u8]) -> Result<usize, Answer>
     ensures { result ≡ step_of (read_header bounds table.now) }
 {
     if table.len() < HEADER {
-        return Step::Stop(Answer::EndsEarly(table.len()));
+        return Err(Answer::EndsEarly(table.len()));
     }
     let mark = has_mark(table);
     let version = is_version_known(table);
     if !mark {
-        return Step::Stop(Answer::WrongMark);
+        return Err(Answer::WrongMark);
     }
     if !version {
-        return Step::Stop(Answer::WrongVersion);
+        return Err(Answer::WrongVersion);
     }
-    match read_counts(header_of(table)) {
-        Step::Next(end) => {
-            if table.len() < end {
-                return Step::Stop(Answer::EndsEarly(table.len()));
-            }
-            Step::Next(end)
-        }
-        Step::Stop(why) => Step::Stop(why),
+    let end = read_counts(header_of(table))?;
+    if table.len() < end {
+        return Err(Answer::EndsEarly(table.len()));
     }
+    Ok(end)
 }
 
-// The role at the byte `at`.
-fn read_role(table: &[u8], header: Header, at: usize) -> Step
-    ensures { result ≡ step_of (read_role table.now header at) }
-{
-    if table.len() <= at {
-        return Step::Stop(Answer::EndsEarly(table.len()));
-    }
-    if !role_ok(table[at], header) {
-        return Step::Stop(Answer::NotAllowed(at));
-    }
-    Step::Next(at + 1)
-}
-
-// The filler at the byte `at`.
-fn read_filler(table: &[u8], header: Header, at: usize) -> Step
-    ensures { result ≡ step_of (read_filler table.now header at) }
-{
-    if table.len() <= at {
-        return Step::Stop(Answer::EndsEarly(table.len()));
-    }
-    if !filler_ok(table[at], header) {
-        return Step::Stop(Answer::NotAllowed(at));
-    }
-    Step::Next(at + 1)
-}
-
-// The role row that begins at the byte `at`: two roles, each judged by itself.
-fn read_role_row(table: &[u8], header: Header, at: usize) -> Step
-    ensures { result ≡ step_of (read_role_row table.now header at) }
-{
-    match read_role(table, header, at) {
-        Step::Next(next) => read_role(table, header, next),
-        Step::Stop(why) => Step::Stop(why),
-    }
-}
-
-// `count` role rows from the byte `from` on.
-fn read_role_rows(table: &[u8], header: Header, count: usize, from: usize) -> Step
-    ensures { result ≡ step_of (read_role_rows table.now header count from) }
+// `count` things from the byte `from` on, one after the other, each read by `one`.
+fn read_many<F: Fn(usize) -> Result<usize, Answer>>(
+    one: F,
+    count: usize,
+    from: usize,
+) -> Result<usize, Answer>
+    requires { F.IsAlwaysCallable one }
+    ensures { (step : ℕ → Result ℕ Answer) → ((at : ℕ) (r : Result ℕ Answer) → F.post one at r → r ≡ step at) → result ≡ steps step count from }
 {
     let mut at = from;
-    let mut k = 0;
-    while k < count {
-        match read_role_row(table, header, at) {
-            Step::Next(next) => {
-                at = next;
-            }
-            Step::Stop(why) => {
-                return Step::Stop(why);
-            }
+    for _ in 0..count {
+        at = one(at)?;
+    }
+    Ok(at)
+}
+
+// A table whose counts are known: what stands where in it, part by part. Each part answers the place after it.
+#[derive(Clone, Copy)]
+struct Body<'a> {
+    table: &'a [u8],
+    header: Header,
+}
+
+impl Body<'_> {
+    // The code at the byte `at`, where the test allows it.
+    fn read_code<F: Fn(u8) -> bool>(&self, is_allowed: F, at: usize) -> Result<usize, Answer>
+        requires { F.IsAlwaysCallable is_allowed }
+        ensures { (allows : ℕ → Bool) → ((code : ℕ) (r : Bool) → F.post is_allowed code r → r ≡ allows code) → result ≡ step_code self.now.table.now allows at }
+    {
+        let Some(&code) = self.table.get(at) else {
+            return Err(Answer::EndsEarly(self.table.len()));
+        };
+        if !is_allowed(code) {
+            return Err(Answer::NotAllowed(at));
         }
-        k += 1;
+        Ok(at + 1)
     }
-    Step::Next(at)
-}
 
-// The restriction row that begins at the byte `at`: a role and a filler.
-fn read_row(table: &[u8], header: Header, at: usize) -> Step
-    ensures { result ≡ step_of (read_row table.now header at) }
-{
-    match read_role(table, header, at) {
-        Step::Next(next) => read_filler(table, header, next),
-        Step::Stop(why) => Step::Stop(why),
+    // The role at the byte `at`.
+    fn read_role(&self, at: usize) -> Result<usize, Answer>
+        ensures { result ≡ step_of (read_role self.now.table.now self.now.header at) }
+    {
+        self.read_code(|code| role_ok(code, self.header), at)
     }
-}
 
-// `count` rows from the byte `from` on.
-fn read_rows(table: &[u8], header: Header, count: usize, from: usize) -> Step
-    ensures { result ≡ step_of (read_rows table.now header count from) }
-{
-    let mut at = from;
-    let mut k = 0;
-    while k < count {
-        match read_row(table, header, at) {
-            Step::Next(next) => {
-                at = next;
-            }
-            Step::Stop(why) => {
-                return Step::Stop(why);
-            }
+    // The filler at the byte `at`.
+    fn read_filler(&self, at: usize) -> Result<usize, Answer>
+        ensures { result ≡ step_of (read_filler self.now.table.now self.now.header at) }
+    {
+        self.read_code(|code| filler_ok(code, self.header), at)
+    }
+
+    // The entry at the byte `at`.
+    fn read_entry(&self, at: usize) -> Result<usize, Answer>
+        ensures { result ≡ step_of (read_entry self.now.table.now self.now.header at) }
+    {
+        self.read_code(|code| entry_ok(code, self.header), at)
+    }
+
+    // The role row that begins at the byte `at`: two roles, each judged by itself.
+    fn read_role_row(&self, at: usize) -> Result<usize, Answer>
+        ensures { result ≡ step_of (read_role_row self.now.table.now self.now.header at) }
+    {
+        let next = self.read_role(at)?;
+        self.read_role(next)
+    }
+
+    // The restriction row that begins at the byte `at`: a role and a filler.
+    fn read_row(&self, at: usize) -> Result<usize, Answer>
+        ensures { result ≡ step_of (read_row self.now.table.now self.now.header at) }
+    {
+        let next = self.read_role(at)?;
+        self.read_filler(next)
+    }
+
+    // The line that begins at the byte `at`: an over-large left count is refused before its entries are read.
+    fn read_line(&self, at: usize) -> Result<usize, Answer>
+        ensures { result ≡ step_of (read_line bounds self.now.table.now self.now.header at) }
+    {
+        let Some(&count) = self.table.get(at) else {
+            return Err(Answer::EndsEarly(self.table.len()));
+        };
+        let p = usize::from(count);
+        if MAX_LEFT < p {
+            return Err(Answer::OverBound(at));
         }
-        k += 1;
+        let next = read_many(|entry| self.read_entry(entry), p, at + 1)?;
+        self.read_entry(next)
     }
-    Step::Next(at)
-}
 
-// The entry at the byte `at`.
-fn read_entry(table: &[u8], header: Header, at: usize) -> Step
-    ensures { result ≡ step_of (read_entry table.now header at) }
-{
-    if table.len() <= at {
-        return Step::Stop(Answer::EndsEarly(table.len()));
-    }
-    if !entry_ok(table[at], header) {
-        return Step::Stop(Answer::NotAllowed(at));
-    }
-    Step::Next(at + 1)
-}
-
-// `count` entries from the byte `from` on.
-fn read_entries(table: &[u8], header: Header, count: usize, from: usize) -> Step
-    ensures { result ≡ step_of (read_entries table.now header count from) }
-{
-    let mut at = from;
-    let mut i = 0;
-    while i < count {
-        match read_entry(table, header, at) {
-            Step::Next(next) => {
-                at = next;
-            }
-            Step::Stop(why) => {
-                return Step::Stop(why);
-            }
+    // The role rows, the rows and the lines, and nothing after them.
+    fn read_body(&self) -> Result<usize, Answer>
+        ensures { result ≡ step_of (read_body bounds self.now.table.now self.now.header) }
+    {
+        let header = self.header;
+        let first = read_many(
+            |row| self.read_role_row(row),
+            usize::from(header.q),
+            header_end(header),
+        )?;
+        let next = read_many(|row| self.read_row(row), usize::from(header.e), first)?;
+        let end = read_many(|line| self.read_line(line), usize::from(header.m), next)?;
+        if end < self.table.len() {
+            return Err(Answer::BytesAfter(end));
         }
-        i += 1;
-    }
-    Step::Next(at)
-}
-
-// The line that begins at the byte `at`: an over-large left count is refused before its entries are read.
-fn read_line(table: &[u8], header: Header, at: usize) -> Step
-    ensures { result ≡ step_of (read_line bounds table.now header at) }
-{
-    if table.len() <= at {
-        return Step::Stop(Answer::EndsEarly(table.len()));
-    }
-    let p = wide(table[at]);
-    if MAX_LEFT < p {
-        return Step::Stop(Answer::OverBound(at));
-    }
-    match read_entries(table, header, p, at + 1) {
-        Step::Next(next) => read_entry(table, header, next),
-        Step::Stop(why) => Step::Stop(why),
-    }
-}
-
-// `count` lines from the byte `from` on.
-fn read_lines(table: &[u8], header: Header, count: usize, from: usize) -> Step
-    ensures { result ≡ step_of (read_lines bounds table.now header count from) }
-{
-    let mut at = from;
-    let mut n = 0;
-    while n < count {
-        match read_line(table, header, at) {
-            Step::Next(next) => {
-                at = next;
-            }
-            Step::Stop(why) => {
-                return Step::Stop(why);
-            }
-        }
-        n += 1;
-    }
-    Step::Next(at)
-}
-
-// The role rows, the rows and the lines, and nothing after them.
-fn read_body(table: &[u8], header: Header) -> Step
-    ensures { result ≡ step_of (read_body bounds table.now header) }
-{
-    match read_role_rows(table, header, wide(header.q), header_end(header)) {
-        Step::Next(first) => match read_rows(table, header, wide(header.e), first) {
-            Step::Next(next) => match read_lines(table, header, wide(header.m), next) {
-                Step::Next(end) => {
-                    if end < table.len() {
-                        return Step::Stop(Answer::BytesAfter(end));
-                    }
-                    Step::Next(end)
-                }
-                Step::Stop(why) => Step::Stop(why),
-            },
-            Step::Stop(why) => Step::Stop(why),
-        },
-        Step::Stop(why) => Step::Stop(why),
+        Ok(end)
     }
 }
 
 // The whole table.
-pub fn check(table: &[u8]) -> Verdict
-    ensures { result ≡ verdict_of (reading table.now) }
+pub fn check(table: &[u8]) -> Result<Readable<'_>, Answer>
+    ensures ok { IfOk result (λ t. t.bytes.now ≡ table.now) }
+    ensures err { IfErr result (λ why. reading table.now ≡ refusal why) }
 {
-    match read_header(table) {
-        Step::Next(_) => match read_body(table, header_of(table)) {
-            Step::Next(_) => Verdict::Readable,
-            Step::Stop(why) => Verdict::Refused(why),
-        },
-        Step::Stop(why) => Verdict::Refused(why),
+    read_header(table)?;
+    let body = Body {
+        table,
+        header: header_of(table),
+    };
+    body.read_body()?;
+    Ok(Readable { bytes: table })
+}
+
+impl Readable<'_> {
+    // The version and the counts.
+    pub fn header(&self) -> Header
+        ensures { result ≡ header_of self.now.bytes.now }
+    {
+        header_of(self.bytes)
     }
-}
 
-// The byte where the rows of a readable table begin.
-fn rows_at(table: &[u8]) -> usize
-    requires { T (is_readable (reading table.now)) }
-    ensures { result ≡ rows_at table.now }
-{
-    let header = header_of(table);
-    header_end(header) + 2 * wide(header.q)
-}
-
-// The byte where line n of a readable table begins; of as many lines as there are, the table's end.
-pub fn line_start(table: &[u8], n: usize) -> usize
-    requires { T (is_readable (reading table.now)) × (n ≤ (header_of table.now).m) }
-    ensures { result ≡ line_start table.now n }
-{
-    let mut at = rows_at(table) + 2 * wide(table[RESTRICTIONS]);
-    let mut i = 0;
-    while i < n {
-        at = at + wide(table[at]) + 2;
-        i += 1;
+    // The byte where the rows begin.
+    fn rows_at(&self) -> usize
+        ensures { result ≡ rows_at self.now.bytes.now }
+    {
+        let header = self.header();
+        header_end(header) + 2 * usize::from(header.q)
     }
-    at
-}
 
-// The narrower role of role row k of a readable table.
-pub fn narrower_of(table: &[u8], k: usize) -> u8
-    requires { T (is_readable (reading table.now)) × (k < (header_of table.now).q) }
-    ensures { result ≡ (role_row_at (table_of table.now).role_rows k).narrower }
-{
-    table[header_end(header_of(table)) + 2 * k]
-}
+    // The byte where line n begins; of as many lines as there are, the table's end.
+    pub fn line_start(&self, n: usize) -> usize
+        requires { n ≤ (header_of self.now.bytes.now).m }
+        ensures { result ≡ line_start self.now.bytes.now n }
+    {
+        let mut at = self.rows_at() + 2 * usize::from(self.bytes[RESTRICTIONS]);
+        for _ in 0..n {
+            at = at + usize::from(self.bytes[at]) + 2;
+        }
+        at
+    }
 
-// Its wider role.
-pub fn wider_of(table: &[u8], k: usize) -> u8
-    requires { T (is_readable (reading table.now)) × (k < (header_of table.now).q) }
-    ensures { result ≡ (role_row_at (table_of table.now).role_rows k).wider }
-{
-    table[header_end(header_of(table)) + 1 + 2 * k]
-}
+    // The narrower role of role row k.
+    pub fn narrower_of(&self, k: usize) -> u8
+        requires { k < (header_of self.now.bytes.now).q }
+        ensures { result ≡ (role_row_at (table_of self.now.bytes.now).role_rows k).narrower }
+    {
+        self.bytes[header_end(self.header()) + 2 * k]
+    }
 
-// The role of restriction row k of a readable table.
-pub fn role_of(table: &[u8], k: usize) -> u8
-    requires { T (is_readable (reading table.now)) × (k < (header_of table.now).e) }
-    ensures { result ≡ (row_at (table_of table.now).rows k).role }
-{
-    table[rows_at(table) + 2 * k]
-}
+    // Its wider role.
+    pub fn wider_of(&self, k: usize) -> u8
+        requires { k < (header_of self.now.bytes.now).q }
+        ensures { result ≡ (role_row_at (table_of self.now.bytes.now).role_rows k).wider }
+    {
+        self.bytes[header_end(self.header()) + 1 + 2 * k]
+    }
 
-// The code of its filler.
-pub fn filler_of(table: &[u8], k: usize) -> u8
-    requires { T (is_readable (reading table.now)) × (k < (header_of table.now).e) }
-    ensures { IsRowFiller table.now k result }
-{
-    table[rows_at(table) + 1 + 2 * k]
-}
+    // The role of restriction row k.
+    pub fn role_of(&self, k: usize) -> u8
+        requires { k < (header_of self.now.bytes.now).e }
+        ensures { result ≡ (row_at (table_of self.now.bytes.now).rows k).role }
+    {
+        self.bytes[self.rows_at() + 2 * k]
+    }
 
-// How many left entries the line has that begins at the byte `at`.
-pub fn left_count(table: &[u8], at: usize) -> usize
-    requires { T (is_readable (reading table.now)) × LineBegins table.now at }
-    ensures { AtLine table.now at (λ l. result ≡ length l.left) }
-{
-    wide(table[at])
-}
+    // The code of its filler.
+    pub fn filler_of(&self, k: usize) -> u8
+        requires { k < (header_of self.now.bytes.now).e }
+        ensures { IsRowFiller self.now.bytes.now k result }
+    {
+        self.bytes[self.rows_at() + 1 + 2 * k]
+    }
 
-// The code of its left entry i.
-pub fn left_code(table: &[u8], at: usize, i: usize) -> u8
-    requires { T (is_readable (reading table.now)) × LineBegins table.now at × AtLine table.now at (λ l. i < length l.left) }
-    ensures { AtLine table.now at (λ l. IsEntryCode table.now (get_or l.left i (constant 0)) result) }
-{
-    table[at + 1 + i]
-}
+    // How many left entries the line has that begins at the byte `at`.
+    pub fn left_count(&self, at: usize) -> usize
+        requires { LineBegins self.now.bytes.now at }
+        ensures { AtLine self.now.bytes.now at (λ l. result ≡ length l.left) }
+    {
+        usize::from(self.bytes[at])
+    }
 
-// The code of its right entry.
-pub fn right_code(table: &[u8], at: usize) -> u8
-    requires { T (is_readable (reading table.now)) × LineBegins table.now at }
-    ensures { AtLine table.now at (λ l. IsEntryCode table.now l.right result) }
-{
-    table[at + 1 + wide(table[at])]
+    // The code of its left entry i.
+    pub fn left_code(&self, at: usize, i: usize) -> u8
+        requires { LineBegins self.now.bytes.now at × AtLine self.now.bytes.now at (λ l. i < length l.left) }
+        ensures { AtLine self.now.bytes.now at (λ l. IsEntryCode self.now.bytes.now (get_or l.left i (constant 0)) result) }
+    {
+        self.bytes[at + 1 + i]
+    }
+
+    // The code of its right entry.
+    pub fn right_code(&self, at: usize) -> u8
+        requires { LineBegins self.now.bytes.now at }
+        ensures { AtLine self.now.bytes.now at (λ l. IsEntryCode self.now.bytes.now l.right result) }
+    {
+        self.bytes[at + 1 + usize::from(self.bytes[at])]
+    }
 }

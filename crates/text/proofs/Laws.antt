@@ -1,31 +1,45 @@
 -- Laws that carry the writers to what they write.
 --
---   take_more       == one element more
+--   copied          == as much of a text as fits is copied into the buffer
 --   joined_more     == one text more
---   decimal_one, decimal_then == a number of one digit, and one digit more
---   text_turn, numbers_turn, bytes_turn == a turn of the loop over a slice
---   numbers_start, bytes_start, all_of == its start, and its end
---   between_later, between_first == what stands between two texts is written but before the first
+--   decimal_last, decimal_then == a number of one digit, and one digit more
+--   numbers_turn, bytes_turn == a turn of the loop over a slice
+--   numbers_start, bytes_start == its start
+--   if_none         == no text
 --   hex_none, hex_some == bytes in hexadecimal
-use mathlib.Core.Path.{◌≡◌, refl, sym, ap, ap₂, ◌∙◌}
-use mathlib.Core.Bool.{Bool, true, false, cond}
-use mathlib.Core.List.{List, [], ◌∷◌, ◌++◌, append_assoc, append-nil, map, map-append}
-use Prim.Native.Nat.{ℕ, zero, suc, ◌+◌, ◌/◌, ◌%◌, ◌≤◌, ◌<◌}
-use native.Mathlib.Omega.{arith}
-use native.Mathlib.Numerals.{add-one}
-use lib.Dec.{ltb}
-use lib.ListN.{length, get_or, take}
-use lib.Seq.{take-suc, take_all}
-use borrow.Author.Tests.{lt-ltb}
-use Rattle.text.specs.Append.{Appended}
-use Rattle.text.specs.AppendLaws.{appended_none, appended_then, appended_as}
+use Rattle.std.proofs.Common.{◌≡◌, ◌==◌, refl, sym, ap, ap₂, ◌∙◌, Bool, true, false, cond, List, [], ◌∷◌, ◌++◌, map, ℕ, zero, suc, ◌+◌, ◌-◌, ◌/◌, ◌%◌, ◌≤◌, ◌<◌, min, length, get_or, take, drop, ltb, arith, lt-ltb, eqb-true, append_assoc, append-nil, take_all, length-take-le, drop-drop}
+use Rattle.std.proofs.lemmas.List.{take_more, map-append}
+use Rattle.std.proofs.Math.Decide.{dec_le}
+use borrow.Rule.Slice.PartMut.{put_mid}
+use Rattle.text.specs.declared.Writer.{Writer}
+use Rattle.text.specs.Append.{fitting, put, Appended}
 use Rattle.text.specs.TextLaws.{decimal_short, decimal_long}
 use Rattle.text.specs.Text.{space, digit, decimal, behind, joined, any, numbers_text, bytes_text, hex_text}
+use Rattle.text.specs.Wrote.{Wrote}
+use Rattle.text.proofs.WroteLaws.{wrote_none, wrote_then, wrote_as}
+
+------------------------------------------------------------------ texts in a buffer
+
+take_fitting : (t : List ℕ) (room n : ℕ) → n ≡ min (length t) room → take room t ≡ take n t
+take_fitting t room n e = go (dec_le (length t) room)
+  where
+    go : Dec (length t ≤ room) → take room t ≡ take n t
+    go (yes h) = take_all room t h ∙ sym (take_all n t (omega arith))
+    go (no h) = ap (λ (k : ℕ). take k t) (let z : room ≡ n = omega arith in z)
+
+pub copied : (b t part : List ℕ) (at n : ℕ) → at < length b → n ≡ min (length t) (length b - at) → part ≡ take n t → Appended b at t (put_mid at (at + n - at) b part) (at + n)
+unfolding fitting put
+copied b t part at n h e p =
+    let f : take (length b - at) t ≡ take n t = take_fitting t (length b - at) n e in
+    let k : length (take (length b - at) t) ≡ n = ap length f ∙ length-take-le n t (omega arith) in
+    record {
+      bytes =
+          ap₂ (λ (l : List ℕ) (j : ℕ). take at b ++ (l ++ drop j (drop at b))) (p ∙ sym f) (let z : at + n - at ≡ n = omega arith in z)
+          ∙ ap (λ (l : List ℕ). take at b ++ (take (length b - at) t ++ l)) (drop-drop n at b ∙ ap (λ (j : ℕ). drop (at + j) b) (sym k));
+      end = ap (λ (j : ℕ). at + j) (sym k);
+    }
 
 ------------------------------------------------------------------ texts one after the other
-
-pub take_more : (l : List ℕ) (i : ℕ) → i < length l → take i l ++ (get_or l i 0 ∷ []) ≡ take (i + 1) l
-take_more l i h = sym (ap (λ (k : ℕ). take k l) (add-one i) ∙ take-suc l i 0 h)
 
 -- one more text behind others
 behind_more : (between : List ℕ) (ts : List (List ℕ)) (t : List ℕ) → behind between ts ++ (between ++ t) ≡ behind between (ts ++ (t ∷ []))
@@ -57,57 +71,47 @@ unfolding numbers_text
 numbers_more ns i h =
     ap (λ (b : Bool). joined space (map decimal (take i ns)) ++ (cond b space [] ++ decimal (get_or ns i 0))) (any_number ns i h)
     ∙ joined_more space (map decimal (take i ns)) (decimal (get_or ns i 0))
-    ∙ ap (joined space) (sym (map-append decimal (take i ns) (get_or ns i 0 ∷ [])) ∙ ap (map decimal) (take_more ns i h))
+    ∙ ap (joined space) (sym (map-append decimal (take i ns) (get_or ns i 0 ∷ [])) ∙ ap (map decimal) (sym (take_more ns i 0 h)))
 
 ------------------------------------------------------------------ the writers
 
-module _ {b : List ℕ} {at : ℕ} where
-  pub decimal_one : {a : List ℕ} {r d : ℕ} (n : ℕ) → n < 10 → d ≡ digit n → Appended b at (d ∷ []) a r → Appended b at (decimal n) a r
-  decimal_one n h e x = appended_as x (ap (λ (k : ℕ). k ∷ []) e ∙ decimal_short n h)
+module _ {w v : Writer} where
+  pub decimal_last : {d : ℕ} (n : ℕ) → n < 10 → d ≡ digit (n % 10) → Wrote w (d ∷ []) v → Wrote w (decimal n) v
+  decimal_last n h e x = wrote_as x (ap (λ (k : ℕ). k ∷ []) (e ∙ ap digit (let z : n % 10 ≡ n = omega arith in z)) ∙ decimal_short n h)
 
-  module _ {m : List ℕ} {e : ℕ} where
-    pub decimal_then : {a : List ℕ} {r d : ℕ} (n : ℕ) → 10 ≤ n → Appended b at (decimal (n / 10)) m e → d ≡ digit (n % 10) → Appended m e (d ∷ []) a r
-        → Appended b at (decimal n) a r
-    decimal_then n h x q y = appended_as (appended_then x y) (ap (λ (k : ℕ). decimal (n / 10) ++ (k ∷ [])) q ∙ decimal_long n h)
-
-    pub text_turn : {a : List ℕ} {r : ℕ} (text : List ℕ) (i : ℕ) → i < length text → Appended b at (take i text) m e → Appended m e (get_or text i 0 ∷ []) a r
-        → Appended b at (take (i + 1) text) a r
-    text_turn text i h x y = appended_as (appended_then x y) (take_more text i h)
-
-    pub numbers_turn : {m' a : List ℕ} {e' r : ℕ} (ns : List ℕ) (i : ℕ) → i < length ns → Appended b at (numbers_text (take i ns)) m e
-        → Appended m e (cond (ltb 0 i) space []) m' e' → Appended m' e' (decimal (get_or ns i 0)) a r → Appended b at (numbers_text (take (i + 1) ns)) a r
-    numbers_turn ns i h x y z = appended_as (appended_then x (appended_then y z)) (numbers_more ns i h)
-
-    pub bytes_turn : {m' a : List ℕ} {e' r d d' y : ℕ} (bs : List ℕ) (i : ℕ) → i < length bs → y ≡ get_or bs i 0 → d ≡ digit (y / 16) → d' ≡ digit (y % 16)
-        → Appended b at (bytes_text (take i bs)) m e → Appended m e (d ∷ []) m' e' → Appended m' e' (d' ∷ []) a r → Appended b at (bytes_text (take (i + 1) bs)) a r
-    bytes_turn {m'} {a} {e'} {r} {d} {d'} {y} bs i h g p q x v w =
-        appended_as (appended_then x (appended_then v w))
-        (ap₂ (λ (j k : ℕ). bytes_text (take i bs) ++ (j ∷ k ∷ [])) p q ∙ bytes_more (take i bs) y ∙ ap bytes_text (ap (λ (k : ℕ). take i bs ++ (k ∷ [])) g ∙ take_more bs i h))
-
-  pub numbers_start : (ns : List ℕ) → Appended b at (numbers_text (take 0 ns)) b at
-  unfolding numbers_text joined
-  numbers_start ns = appended_none b at
-
-  pub bytes_start : (bs : List ℕ) → Appended b at (bytes_text (take 0 bs)) b at
-  unfolding bytes_text
-  bytes_start bs = appended_none b at
-
-  -- a loop over a slice has come to its end
-  pub all_of : {m : List ℕ} {e : ℕ} (f : List ℕ → List ℕ) (l : List ℕ) (i : ℕ) → length l ≤ i → Appended b at (f (take i l)) m e → Appended b at (f l) m e
-  all_of f l i h x = appended_as x (ap f (take_all i l h))
-
-  pub between_later : {a : List ℕ} {r : ℕ} (later : Bool) (between : List ℕ) → later ≡ true → Appended b at between a r → Appended b at (cond later between []) a r
-  between_later later between e x = appended_as x (sym (ap (λ (y : Bool). cond y between []) e))
-
-  pub between_first : (later : Bool) (between : List ℕ) → later ≡ false → Appended b at (cond later between []) b at
-  between_first later between e = appended_as (appended_none b at) (sym (ap (λ (y : Bool). cond y between []) e))
-
-  pub hex_none : {a : List ℕ} {r : ℕ} (bs : List ℕ) → length bs ≡ 0 → Appended b at (0x2D ∷ []) a r → Appended b at (hex_text bs) a r
+  pub hex_none : (bs : List ℕ) → true ≡ (length bs == 0) → Wrote w (0x2D ∷ []) v → Wrote w (hex_text bs) v
   unfolding hex_text
   hex_none [] e x = x
-  hex_none (y ∷ bs) e x = absurd (let z : ⊥ = omega arith in z)
+  hex_none (y ∷ bs) e x = absurd (let z : ⊥ = omega (arith, eqb-true (length (y ∷ bs)) 0 (sym e)) in z)
 
-  pub hex_some : {a : List ℕ} {r : ℕ} (bs : List ℕ) → (length bs ≡ 0 → ⊥) → Appended b at (bytes_text bs) a r → Appended b at (hex_text bs) a r
+  pub hex_some : (bs : List ℕ) → false ≡ (length bs == 0) → Wrote w (bytes_text bs) v → Wrote w (hex_text bs) v
   unfolding hex_text
-  hex_some [] n x = absurd (n refl)
-  hex_some (y ∷ bs) n x = x
+  hex_some [] e x = cc
+  hex_some (y ∷ bs) e x = x
+
+  module _ {m : Writer} where
+    pub decimal_then : {d : ℕ} (n : ℕ) → 10 ≤ n → Wrote w (decimal (n / 10)) m → d ≡ digit (n % 10) → Wrote m (d ∷ []) v → Wrote w (decimal n) v
+    decimal_then n h x q y = wrote_as (wrote_then x y) (ap (λ (k : ℕ). decimal (n / 10) ++ (k ∷ [])) q ∙ decimal_long n h)
+
+    module _ {p : Writer} where
+      pub numbers_turn : (ns : List ℕ) (i : ℕ) → i < length ns → Wrote w (numbers_text (take i ns)) m → Wrote m (cond (ltb 0 i) space []) p → Wrote p (decimal (get_or ns i 0)) v
+          → Wrote w (numbers_text (take (i + 1) ns)) v
+      numbers_turn ns i h x y z = wrote_as (wrote_then x (wrote_then y z)) (numbers_more ns i h)
+
+      pub bytes_turn : {d e : ℕ} (bs : List ℕ) (i : ℕ) → i < length bs → d ≡ digit (get_or bs i 0 / 16) → e ≡ digit (get_or bs i 0 % 16)
+          → Wrote w (bytes_text (take i bs)) m → Wrote m (d ∷ []) p → Wrote p (e ∷ []) v → Wrote w (bytes_text (take (i + 1) bs)) v
+      bytes_turn bs i h f g x y z =
+          wrote_as (wrote_then x (wrote_then y z))
+          (ap₂ (λ (j k : ℕ). bytes_text (take i bs) ++ (j ∷ k ∷ [])) f g ∙ bytes_more (take i bs) (get_or bs i 0) ∙ ap bytes_text (sym (take_more bs i 0 h)))
+
+module _ (w : Writer) where
+  pub if_none : (there : Bool) (text : List ℕ) → there ≡ false → Wrote w (cond there text []) w
+  if_none there text e = wrote_as (wrote_none w) (sym (ap (λ (y : Bool). cond y text []) e))
+
+  pub numbers_start : Wrote w (numbers_text []) w
+  unfolding numbers_text joined
+  numbers_start = wrote_none w
+
+  pub bytes_start : Wrote w (bytes_text []) w
+  unfolding bytes_text
+  bytes_start = wrote_none w

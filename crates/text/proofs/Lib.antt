@@ -1,3 +1,4 @@
 pub mod Laws
+pub mod WroteLaws
 pub mod ListingLaws
 pub mod FitsLaws

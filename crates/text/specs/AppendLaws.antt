@@ -1,5 +1,6 @@
 -- Laws of appending.
 --
+--   fitting_length == what fits is no longer than the room
 --   fitting_none, fitting_all == no byte fits; all bytes fit
 --   put_length, appended_length == a buffer keeps its length
 --   appended_none  == the empty text is appended by doing nothing
@@ -23,7 +24,7 @@ use Rattle.std.proofs.lemmas.List.{set_split}
 use Rattle.text.specs.Append.{fitting, put, Appended}
 
 -- how much fits, and what is left for a second text
-fitting_length : (b : List ℕ) (at : ℕ) (t : List ℕ) → length (fitting b at t) ≤ length b - at
+pub fitting_length : (b : List ℕ) (at : ℕ) (t : List ℕ) → length (fitting b at t) ≤ length b - at
 unfolding fitting
 fitting_length b at t = simp length-take (omega arith)
 

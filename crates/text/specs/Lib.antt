@@ -8,3 +8,4 @@ pub mod Batch
 pub mod Room
 pub mod Examples
 pub mod Unique
+pub mod Wrote

@@ -8,14 +8,12 @@
 --   atom_texts t s n      == their texts
 --   conjunction_text ts   == the texts joined by ` & `, or `top` for none
 --   set_text t s          == the set s
---   atom_of t s i later   == atom i, where the set s has it, with ` & ` before it if it is a later one
---   SetBegun t s b at i later m e == behind `at` the atoms of the set s with a number below i are appended to b, and `later` says if there were any
 --   variable_line t s x   == the line of variable x, whose set is s
 --   variable_lines t a n  == the lines of variables 0 to n - 1, whose sets a gives
 --   solved_text t out     == the lines of all variables, where the output holds a set for each
 --   first_line a          == number, count and place on a line
 --   listing_text s a out  == the whole text of what is handed back, with the output
-use Rattle.std.specs.Prelude.{◌≡◌, Bool, true, false, cond, List, [], ◌∷◌, ◌++◌, map, ℕ, zero, suc, ◌*◌, ◌-◌, ltb, length}
+use Rattle.std.specs.Prelude.{true, false, List, [], ◌∷◌, ◌++◌, map, ℕ, zero, suc, ◌*◌, ◌-◌, ltb, length}
 use Rattle.bounds.specs.Bounds.{set_bytes}
 use Rattle.el.specs.Test.{bit}
 use Rattle.el.specs.Table.{Filler, top_f, constant_f, variable_f, Row, Table, row_at, atoms}
@@ -24,8 +22,7 @@ use Rattle.table.specs.declared.Kind.{Kind}
 use Rattle.table.specs.declared.Kind.TheVariants.{Top, Constant, Restriction, Variable, Other}
 use Rattle.table.specs.Reading.{table_of}
 use Rattle.output.specs.Written.{set_in}
-use Rattle.text.specs.Append.{Appended}
-use Rattle.text.specs.Text.{newline, decimal, joined, any, answer_text}
+use Rattle.text.specs.Text.{newline, decimal, joined, answer_text}
 
 abbrev pub top_text : List ℕ
 top_text = 0x74 ∷ 0x6F ∷ 0x70 ∷ []
@@ -76,14 +73,6 @@ atom_texts t s n = map (atom_text t) (atoms_in n s)
 
 unfoldable pub set_text : Table → ℕ → List ℕ
 set_text t s = conjunction_text (atom_texts t s (atoms t))
-
--- atom i, where the set s has it, behind those that stand before it
-unfoldable pub atom_of : Table → ℕ → ℕ → Bool → List ℕ
-atom_of t s i later = elim (bit i s) [ true ↦ cond later ampersand [] ++ atom_text t i | false ↦ [] ]
-
-pub record SetBegun (t : Table) (s : ℕ) (b : List ℕ) (at i : ℕ) (later : Bool) (m : List ℕ) (e : ℕ) : Type 0 where
-  pub later_is : later ≡ any (atom_texts t s i)
-  pub written : Appended b at (joined ampersand (atom_texts t s i)) m e
 
 -- "a line per variable follows: `v`, number, `: `, then its atoms"
 unfoldable pub variable_line : Table → ℕ → ℕ → List ℕ

@@ -1,8 +1,9 @@
 -- Laws of a run.
 --
 --   ran_none, ran_on, runs_ended, runs_whole == a run of no node, of some after others, one that ended, and a whole one
---   running_start, running_fits, running_on, running_spent, running_ended == the loop of a run: its turns and ends
 --   runs_one, runs_more == a run by where its first node leads
+--   running_start, running_first == the loop of a run begins: no node is looked at yet, or the first is
+--   running_fits, running_on, running_spent, running_ended, running_done == its turns and ends
 --   runs_stays, runs_going == a run by its state
 --   runs_twice         == A RUN AFTER A RUN IS ONE RUN
 use Rattle.std.specs.Prelude.{◌≡◌, refl, ℕ, ◌+◌, ◌-◌, ◌≤◌, ◌<◌}
@@ -12,8 +13,6 @@ use Rattle.el.specs.ScanLaws.{moves_none}
 use Rattle.node.specs.declared.Sets.{Sets}
 use Rattle.walk.specs.declared.Going.{Going}
 use Rattle.walk.specs.declared.Going.TheVariants.{Solved, On, Over}
-use Rattle.walk.specs.declared.Step.{Step}
-use Rattle.walk.specs.declared.Gone.{Gone}
 use Rattle.walk.specs.declared.State.{State}
 use Rattle.walk.specs.Step.{Sound, rest, HasEnded, Goes, Looks, Advances, Ran, RunsOn, RunsAs, Runs, Running}
 use Rattle.walk.specs.StepLaws.{ended_off, keeps_same, keeps_sound, goes_on, goes_as}
@@ -33,50 +32,82 @@ runs_whole {n = n} ran e = record { many = n; few = omega arith; whole = λ _. e
 pub ran_none : (t : Table) (sets : Sets) (count : ℕ) → Ran t sets count 0 (record { going = On; sets = sets; count = count })
 ran_none t sets count = record { counted = sym (add-zero count); goes = record { leads = moves_none refl; keeps = keeps_same } }
 
-pub running_start : (t : Table) (first : Sets) (counted end : ℕ) → counted ≤ end → Sound t first → 0 < first.chosen → Running t first counted end first counted
-running_start t first counted end h sound some = record { many = 0; ran = ran_none t first counted; few = h; sound = sound; parent = some }
+-- the loop of a run: no node is looked at, the first is, and then siblings are swept over
+pub running_start : (t : Table) (first : Sets) (counted end : ℕ) → counted ≤ end → Sound t first → 0 < first.chosen
+    → Running t first counted end (record { going = On; sets = first; count = counted })
+running_start t first counted end h sound some = record { many = 0; ran = ran_none t first counted; few = h; sound = sound; parent = λ _. some }
 
-module _ {t : Table} {first : Sets} {counted end : ℕ} {sets : Sets} {count : ℕ} (running : Running t first counted end sets count) where
-  counted_is : count ≡ counted + running.many
+pub running_first : {t : Table} {first to : Sets} {going : Going} (counted end : ℕ) → counted < end → Sound t first → Looks t first going to
+    → Running t first counted end (record { going = going; sets = to; count = counted + 1 })
+running_first counted end h sound looks =
+    record { many = 1; ran = record { counted = refl; goes = looks.goes }; few = omega arith; sound = keeps_sound looks.goes.keeps sound; parent = looks.parent }
+
+module _ {t : Table} {first : Sets} {counted end : ℕ} {state : State} (running : Running t first counted end state) where
+  counted_is : state.count ≡ counted + running.many
   counted_is = running.ran.counted
 
-  pub running_spent : (share : ℕ) → end ≡ counted + share → end ≤ count → RunsOn t first counted share (record { going = On; sets = sets; count = count })
-  running_spent share e h = let q = counted_is in let f = running.few in runs_whole running.ran (omega arith)
+  pub running_spent : (share : ℕ) → end ≡ counted + share → end ≤ state.count → RunsOn t first counted share state
+  running_spent share e h = let q = counted_is in let f : state.count ≤ end = running.few in runs_whole running.ran (omega arith)
 
-  module _ (gone : Gone) (more : count < end) (advances : Advances t sets (end - count) gone) where
-    pub running_fits : (0 < gone.passed) × (count + gone.passed ≤ end)
-    running_fits = (advances.some, let h : gone.passed ≤ end - count = advances.few in omega arith)
+  pub running_done : (share : ℕ) → end ≡ counted + share → (state.going ≡ On → end ≤ state.count) → RunsOn t first counted share state
+  running_done share e done =
+      let q = counted_is in let f : state.count ≤ end = running.few in
+      record { many = running.many; few = omega arith; whole = λ o. let d : end ≤ state.count = done o in omega arith; ran = running.ran }
 
-    ran : (g : Going) → gone.going ≡ g → Ran t first counted (running.many + gone.passed) (record { going = g; sets = gone.sets; count = count + gone.passed })
+  -- a sweep passed some siblings
+  pub running_fits : {to : State} → Advances t state end to → (passed : ℕ) → to.count ≡ state.count + passed → (0 < passed) × (state.count + passed ≤ end)
+  running_fits {to} advances passed e =
+      let c : to.count ≡ state.count + advances.many = advances.ran.counted in
+      let s : 0 < advances.many = advances.some in
+      let f : state.count + advances.many ≤ end = advances.few in
+      (omega arith, omega arith)
+
+  module _ {to : State} (on : state.going ≡ On) (advances : Advances t state end to) where
+    fits : (0 < advances.many) × (state.count + advances.many ≤ end)
+    fits = running_fits advances advances.many advances.ran.counted
+
+    ran : (g : Going) → to.going ≡ g → Ran t first counted (running.many + advances.many) (record { going = g; sets = to.sets; count = to.count })
     ran g e =
         let q = counted_is in
-        record { counted = omega arith; goes = goes_on running.ran.goes.leads running.ran.goes.keeps (goes_as gone.going g e advances.goes) }
+        let c : to.count ≡ state.count + advances.many = advances.ran.counted in
+        record { counted = omega arith; goes = goes_on (goes_as state.going On on running.ran.goes).leads running.ran.goes.keeps (goes_as to.going g e advances.ran.goes) }
 
-    pub running_on : gone.going ≡ On → Running t first counted end gone.sets (count + gone.passed)
-    running_on e =
-        record { many = running.many + gone.passed; ran = ran On e; few = running_fits.1; sound = keeps_sound advances.goes.keeps running.sound; parent = advances.parent e }
+    pub running_on : Running t first counted end to
+    running_on =
+        let c : to.count ≡ state.count + advances.many = advances.ran.counted in
+        let f = fits in
+        record {
+          many = running.many + advances.many;
+          ran = record { counted = (ran to.going refl).counted; goes = (ran to.going refl).goes };
+          few = omega arith;
+          sound = keeps_sound advances.ran.goes.keeps running.sound;
+          parent = advances.parent;
+        }
 
-    pub running_ended : (g : Going) → gone.going ≡ g → HasEnded g → (share : ℕ) → end ≡ counted + share → RunsOn t first counted share (record { going = g; sets = gone.sets; count = count + gone.passed })
-    running_ended g e off share i = let q = counted_is in let f = running_fits in runs_ended (ran g e) off (omega arith)
+    pub running_ended : (g : Going) → to.going ≡ g → HasEnded g → (share : ℕ) → end ≡ counted + share
+        → RunsOn t first counted share (record { going = g; sets = to.sets; count = to.count })
+    running_ended g e off share i = let q = counted_is in let f = fits in runs_ended (ran g e) off (omega arith)
 
 -- the first node is looked at
-module _ {t : Table} {sets : Sets} {step : Step} (looks : Looks t sets step) (count share : ℕ) (some : 0 < share) where
-  pub runs_one : (g : Going) → step.going ≡ g → HasEnded g → RunsOn t sets count share (record { going = g; sets = step.sets; count = count + 1 })
-  runs_one g e off = runs_ended (record { counted = refl; goes = goes_as step.going g e looks.goes }) off some
+module _ {t : Table} {sets : Sets} {going : Going} {to : Sets} (looks : Looks t sets going to) (count share : ℕ) (some : 0 < share) where
+  pub runs_one : (g : Going) → going ≡ g → HasEnded g → RunsOn t sets count share (record { going = g; sets = to; count = count + 1 })
+  runs_one g e off = runs_ended (record { counted = refl; goes = goes_as going g e looks.goes }) off some
 
-  pub runs_more : {state : State} → step.going ≡ On → RunsOn t step.sets (count + 1) (share - 1) state → RunsOn t sets count share state
+  pub runs_more : {state : State} → going ≡ On → RunsOn t to (count + 1) (share - 1) state → RunsOn t sets count share state
   runs_more {state} e runs =
       let f : runs.many ≤ share - 1 = runs.few in
       record { many = 1 + runs.many; few = omega arith; whole = λ o. let w : runs.many ≡ share - 1 = runs.whole o in omega arith; ran = ran_on looks.goes e runs.ran }
 
--- a state that has ended, and one that goes on
-pub runs_stays : (t : Table) (state : State) (share : ℕ) (g : Going) → state.going ≡ g → HasEnded g → Runs t state share state
+-- a state that has ended stays, and any where no node is allowed; one that goes on is moved on
+pub runs_stays : (t : Table) (state : State) (share : ℕ) → (state.going ≡ On → share ≡ 0) → Runs t state share state
 unfolding Runs
-runs_stays t state share g e h = subst (λ (x : Going). RunsAs t x state share state) (sym e) (at g h)
+runs_stays t state share h = at state.going refl
   where
-    at : (g : Going) → HasEnded g → RunsAs t g state share state
+    at : (g : Going) → state.going ≡ g → RunsAs t g state share state
     at Solved _ = refl
-    at On z = absurd z
+    at On e =
+        let none = ran_none t state.sets state.count in
+        runs_whole (record { counted = none.counted; goes = goes_as On state.going (sym e) none.goes }) (sym (h e))
     at Over _ = refl
 
 pub runs_going : (t : Table) (state : State) (share : ℕ) (to : State) → state.going ≡ On → RunsOn t state.sets state.count share to → Runs t state share to

@@ -12,36 +12,31 @@
 --   Goes t l n from going to == it leads there, and what is so of `from` stays so
 --   HasEnded going   == the walk does not go on
 --   HasParent going to == a node that the walk goes on to is not the root
---   Steps t l n from step == both, of a step; from what comes after a node, `Next`; from a node that is examined, `Looks`
+--   Steps t l n from going to == both, of a step; from what comes after a node, `Next`; from a node that is examined, `Looks`
 --   dead_at t sets    == the node is dead
 --   Climbs t a₀ k₀ a k == what comes after the node (take k₀ a₀) comes after (take k a), and what is so of the first is so of the second
---   Advances t sets most gone == a sweep over at most so many siblings, and the step after it
 --   Ran t sets count n to == the node of `sets` moved on by n nodes; count were examined before
+--   Advances t from end to == a sweep over siblings until `end` nodes are examined at most, and the step after it
 --   RunsOn t sets count share to == the same by `share` nodes, or fewer where the walk ends
 --   Runs t from share to == the same of a state; one that has ended stays
---   Running t first counted end sets count == a run from the first node, up to the node of `sets`: so far it went along nodes none of which ends the walk
+--   Running t first counted end to == a run from the first node, up to the state `to`: so far it went along nodes none of which ends the walk, but where it has ended
 --   CanCount count share == so many nodes more can be counted
 --   Fresh state      == the state at the root
---   Given s counts last == s is a readable table with these counts, and `last` is its last set number
---   outcome_of walked == the outcome that the walk's last state says; `outcome_as`, by its end
-use Rattle.std.specs.Prelude.{◌≡◌, Bool, true, false, List, [], ℕ, ◌+◌, ◌^◌, ◌≤◌, ◌<◌, T, get_or, take}
+--   Given s p last   == p is what is prepared of the table s, and `last` is its last set number
+--   outcome_of state == the outcome that the walk's last state says; `outcome_as`, by where it is going
+use Rattle.std.specs.Prelude.{◌≡◌, Bool, true, false, List, [], ℕ, ◌+◌, ◌^◌, ◌≤◌, ◌<◌, get_or, take}
 use Rattle.bounds.specs.Bounds as bounds
 use Rattle.el.specs.Table.{Table, atoms, role_order}
 use Rattle.el.specs.Walk.{Node, dead, ends, Outcome, solved, nothing, budget}
 use Rattle.el.specs.Along.{remaining, afterwards, Moves}
-use Rattle.table.specs.Reading.{reading, is_readable, table_of}
+use Rattle.table.specs.Reading.{table_of}
 use Rattle.node.specs.declared.Sets.{Sets}
-use Rattle.node.specs.declared.Counts.{Counts}
-use Rattle.node.specs.Node.{node_of, CountsOf}
+use Rattle.node.specs.declared.Prepared.{Prepared}
+use Rattle.node.specs.Node.{node_of, Prepares}
 use Rattle.level.specs.Sweep.{sets_of}
 use Rattle.walk.specs.declared.Going.{Going}
 use Rattle.walk.specs.declared.Going.TheVariants.{Solved, On, Over}
-use Rattle.walk.specs.declared.Step.{Step}
-use Rattle.walk.specs.declared.Gone.{Gone}
 use Rattle.walk.specs.declared.State.{State}
-use Rattle.walk.specs.declared.End.{End}
-use Rattle.walk.specs.declared.End.TheVariants.{Found, Nothing, Spent}
-use Rattle.walk.specs.declared.Walked.{Walked}
 
 unfoldable pub rest : Table → Sets → List Node
 rest t sets = remaining (dead (role_order t) t) (2 ^ atoms t) t.variables sets.set sets.chosen
@@ -93,15 +88,15 @@ HasEnded Over = Unit {0}
 abbrev pub HasParent : Going → Sets → Type 0
 HasParent going to = going ≡ On → 0 < to.chosen
 
-pub record Steps (t : Table) (l : List Node) (n : ℕ) (from : Sets) (step : Step) : Type 0 where
-  pub goes : Goes t l n from step.going step.sets
-  pub parent : HasParent step.going step.sets
+pub record Steps (t : Table) (l : List Node) (n : ℕ) (from : Sets) (going : Going) (to : Sets) : Type 0 where
+  pub goes : Goes t l n from going to
+  pub parent : HasParent going to
 
-abbrev pub Next : Table → Sets → Step → Type 0
-Next t sets step = Steps t (after t sets) 0 sets step
+abbrev pub Next : Table → Sets → Going → Sets → Type 0
+Next t sets going to = Steps t (after t sets) 0 sets going to
 
-abbrev pub Looks : Table → Sets → Step → Type 0
-Looks t sets step = Steps t (rest t sets) 1 sets step
+abbrev pub Looks : Table → Sets → Going → Sets → Type 0
+Looks t sets going to = Steps t (rest t sets) 1 sets going to
 
 unfoldable pub dead_at : Table → Sets → Bool
 dead_at t sets = dead (role_order t) t (node_of sets)
@@ -110,15 +105,16 @@ pub record Climbs (t : Table) (a₀ : List ℕ) (k₀ : ℕ) (a : List ℕ) (k :
   pub same : after t (sets_of a₀ k₀) ≡ after t (sets_of a k)
   pub keeps : KeepsAt t a₀ k₀ a k
 
-pub record Advances (t : Table) (sets : Sets) (most : ℕ) (gone : Gone) : Type 0 where
-  pub some : 0 < gone.passed
-  pub few : gone.passed ≤ most
-  pub goes : Goes t (rest t sets) gone.passed sets gone.going gone.sets
-  pub parent : HasParent gone.going gone.sets
-
 pub record Ran (t : Table) (sets : Sets) (count n : ℕ) (to : State) : Type 0 where
   pub counted : to.count ≡ count + n
   pub goes : Goes t (rest t sets) n sets to.going to.sets
+
+pub record Advances (t : Table) (from : State) (end : ℕ) (to : State) : Type 0 where
+  pub many : ℕ
+  pub some : 0 < many
+  pub few : from.count + many ≤ end
+  pub ran : Ran t from.sets from.count many to
+  pub parent : HasParent to.going to.sets
 
 pub record RunsOn (t : Table) (sets : Sets) (count share : ℕ) (to : State) : Type 0 where
   pub many : ℕ
@@ -134,12 +130,12 @@ RunsAs t Over from share to = to ≡ from
 unfoldable pub Runs : Table → State → ℕ → State → Type 0
 Runs t from share to = RunsAs t from.going from share to
 
-pub record Running (t : Table) (first : Sets) (counted end : ℕ) (sets : Sets) (count : ℕ) : Type 0 where
+pub record Running (t : Table) (first : Sets) (counted end : ℕ) (to : State) : Type 0 where
   pub many : ℕ
-  pub ran : Ran t first counted many (record { going = On; sets = sets; count = count })
-  pub few : count ≤ end
-  pub sound : Sound t sets
-  pub parent : 0 < sets.chosen
+  pub ran : Ran t first counted many to
+  pub few : to.count ≤ end
+  pub sound : Sound t to.sets
+  pub parent : HasParent to.going to.sets
 
 abbrev pub CanCount : ℕ → ℕ → Type 0
 CanCount count share = count + share < bounds.counts
@@ -150,16 +146,15 @@ pub record Fresh (state : State) : Type 0 where
   pub empty : (x : ℕ) → get_or state.sets.set x 0 ≡ 0
   pub none_counted : state.count ≡ 0
 
-pub record Given (s : List ℕ) (counts : Counts) (last : ℕ) : Type 0 where
-  pub readable : T (is_readable (reading s))
-  pub counts_of : CountsOf s counts
+pub record Given (s : List ℕ) (p : Prepared) (last : ℕ) : Type 0 where
+  pub prepares : Prepares s p
   pub width : 2 ^ atoms (table_of s) ≡ last + 1
   pub narrow : last < 2 ^ bounds.max_atoms
 
-abbrev pub outcome_as : End → ℕ → Node → Outcome
-outcome_as Found n s = solved n s
-outcome_as Nothing n s = nothing n
-outcome_as Spent n s = budget n
+abbrev pub outcome_as : Going → ℕ → Node → Outcome
+outcome_as Solved n s = solved n s
+outcome_as Over n s = nothing n
+outcome_as On n s = budget n
 
-unfoldable pub outcome_of : Walked → Outcome
-outcome_of w = outcome_as w.end w.count (node_of w.sets)
+unfoldable pub outcome_of : State → Outcome
+outcome_of state = outcome_as state.going state.count (node_of state.sets)

@@ -26,7 +26,6 @@ use Rattle.node.specs.SetsLaws.{clean_next, clean_up, length_node}
 use Rattle.level.specs.Sweep.{sets_of}
 use Rattle.walk.specs.declared.Going.{Going}
 use Rattle.walk.specs.declared.Going.TheVariants.{Solved, On, Over}
-use Rattle.walk.specs.declared.Step.{Step}
 use Rattle.walk.specs.Step.{LiveAboveAt, InRange, LiveAbove, Sound, KeepsAt, Keeps, rest, after, HasEnded, Climbs, dead_at, Leads, Goes, Next, Looks}
 
 ----------------------------------------------------------------------------------------------------
@@ -102,7 +101,7 @@ module _ (t : Table) (a₀ : List ℕ) (k₀ : ℕ) (a : List ℕ) (k : ℕ) (cl
           keeps = keeps_on climbs.keeps (keeps_up t a k some fits);
         }
 
-    pub next_sibling : get_or a (k - 1) 0 < last → Next t (sets_of a₀ k₀) (record { going = On; sets = sets_of (set a (k - 1) (get_or a (k - 1) 0 + 1)) k })
+    pub next_sibling : get_or a (k - 1) 0 < last → Next t (sets_of a₀ k₀) On (sets_of (set a (k - 1) (get_or a (k - 1) 0 + 1)) k)
     next_sibling h =
         record {
           goes = record {
@@ -112,7 +111,7 @@ module _ (t : Table) (a₀ : List ℕ) (k₀ : ℕ) (a : List ℕ) (k : ℕ) (cl
           parent = λ _. some;
         }
 
-  pub next_none : k ≡ 0 → Next t (sets_of a₀ k₀) (record { going = Over; sets = sets_of a 0 })
+  pub next_none : k ≡ 0 → Next t (sets_of a₀ k₀) Over (sets_of a 0)
   next_none e =
       record {
         goes = record {
@@ -139,14 +138,14 @@ module _ (t : Table) (s : Node) where
   ends_part e h = rw (e, ne_eqb (length s) t.variables h)
 
 module _ (t : Table) (sets : Sets) where
-  pub looks_dead : (step : Step) → dead_at t sets ≡ true → Next t sets step → Looks t sets step
+  pub looks_dead : {going : Going} {to : Sets} → dead_at t sets ≡ true → Next t sets going to → Looks t sets going to
   unfolding dead_at
-  looks_dead step e next =
+  looks_dead e next =
       let q : rest t sets ≡ node_of sets ∷ after t sets = unfold rest after node_of in remaining_gone (dead (role_order t) t) (2 ^ atoms t) t.variables sets.set sets.chosen e in
       record { goes = goes_on (moves_one (node_of sets) q (ends_dead t (node_of sets) e)) keeps_same next.goes; parent = next.parent }
 
   module _ (fits : sets.chosen ≤ length sets.set) (live : dead_at t sets ≡ false) where
-    pub looks_solved : sets.chosen ≡ t.variables → Looks t sets (record { going = Solved; sets = sets })
+    pub looks_solved : sets.chosen ≡ t.variables → Looks t sets Solved sets
     looks_solved h =
         record {
           goes = record { leads = (0, refl, moves_none refl, ends_live t (node_of sets) (unfold dead_at in live) (length_node sets fits ∙ h)); keeps = keeps_same };
@@ -154,7 +153,7 @@ module _ (t : Table) (sets : Sets) where
         }
 
     pub looks_down : (to : Sets) → sets.chosen < length sets.set → sets.chosen < t.variables → to.set ≡ set sets.set sets.chosen 0 → to.chosen ≡ sets.chosen + 1
-        → Looks t sets (record { going = On; sets = to })
+        → Looks t sets On to
     looks_down to h l p q =
         record {
           goes = record {

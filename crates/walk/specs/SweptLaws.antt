@@ -2,7 +2,7 @@
 --
 --   sibling_next, swept_moves == dead siblings, gone along
 --   advanced_live, advanced_over, advanced_spent == a sweep by its end, and the step after it
-use Rattle.std.specs.Prelude.{◌≡◌, false}
+use Rattle.std.specs.Prelude.{◌≡◌, refl, false}
 use Rattle.std.proofs.Common.{sym, ap₂, ◌∙◌, add-zero, add-one, arith}
 use Rattle.std.proofs.Math.Path.{ap, subst}
 use Rattle.std.proofs.Math.Bool.{true}
@@ -21,8 +21,8 @@ use Rattle.level.specs.declared.Swept.{Swept}
 use Rattle.level.specs.declared.Halt.{Halt}
 use Rattle.level.specs.declared.Halt.TheVariants as halt
 use Rattle.level.specs.Sweep.{sets_of, sibling_of, own_of, dead_sibling, Passes, SweepsAs, Sweeps}
+use Rattle.walk.specs.declared.Going.{Going}
 use Rattle.walk.specs.declared.Going.TheVariants.{On}
-use Rattle.walk.specs.declared.Step.{Step}
 use Rattle.walk.specs.Step.{Keeps, rest, dead_at, Goes, Next, Looks, Advances}
 use Rattle.walk.specs.StepLaws.{keeps_sibling, goes_on, ends_dead, looks_dead}
 
@@ -56,8 +56,8 @@ module _ (t : Table) (last : ℕ) (width : 2 ^ atoms t ≡ last + 1) (sets : Set
       next : own_of sets + i + 1 ≡ own_of sets + suc i
       next = omega arith
 
-  -- the sweep of at most `most` siblings, and the node `here` where it ended
-  module _ (most : ℕ) (swept : Swept) (sweeps : Sweeps t sets last most swept) (here : Sets)
+  -- a sweep until `end` nodes are examined at most, where `count` were, and the node `here` where it ended
+  module _ (count end : ℕ) (swept : Swept) (sweeps : Sweeps t sets last (end - count) swept) (here : Sets)
       (set_is : here.set ≡ sibling_of sets swept.at) (chosen_is : here.chosen ≡ sets.chosen) where
     is_sibling : here ≡ sibling swept.at
     is_sibling = ap₂ (λ (a : List ℕ) (k : ℕ). sets_of a k) set_is chosen_is
@@ -74,34 +74,40 @@ module _ (t : Table) (last : ℕ) (width : 2 ^ atoms t ≡ last + 1) (sets : Set
         (swept_moves i (let w : swept.at ≤ last = sweeps.within in omega arith) p)
 
     -- what the sweep says, by its end
-    as_ended : (x : Halt) → swept.end ≡ x → SweepsAs t sets last most x swept.passed swept.at
-    as_ended x e = subst (λ (z : Halt). SweepsAs t sets last most z swept.passed swept.at) e sweeps.ends
+    as_ended : (x : Halt) → swept.end ≡ x → SweepsAs t sets last (end - count) x swept.passed swept.at
+    as_ended x e = subst (λ (z : Halt). SweepsAs t sets last (end - count) z swept.passed swept.at) e sweeps.ends
 
-    module _ (step : Step) where
+    module _ (from going : Going) (to : Sets) where
+      abbrev Advanced : Type 0
+      Advanced = Advances t (record { going = from; sets = sets; count = count }) end (record { going = going; sets = to; count = count + swept.passed })
+
       -- i siblings are dead, and the one at hand is examined
-      advanced : (i : ℕ) → swept.passed ≡ i + 1 → swept.at ≡ own_of sets + i → Passes t sets i → Looks t here step → Advances t sets most (record { going = step.going; sets = step.sets; passed = swept.passed })
+      advanced : (i : ℕ) → swept.passed ≡ i + 1 → swept.at ≡ own_of sets + i → Passes t sets i → Looks t here going to → Advanced
       advanced i all e p looks =
           record {
+            many = swept.passed;
             some = omega arith;
-            few = sweeps.few;
-            goes = subst (λ (n : ℕ). Goes t (rest t sets) n sets step.going step.sets) (sym all) (goes_on (here_moves i e p) here_keeps looks.goes);
+            few = let f : swept.passed ≤ end - count = sweeps.few in omega arith;
+            ran = record { counted = refl; goes = subst (λ (n : ℕ). Goes t (rest t sets) n sets going to) (sym all) (goes_on (here_moves i e p) here_keeps looks.goes) };
             parent = looks.parent;
           }
 
-      pub advanced_live : swept.end ≡ halt.Live → (dead_at t here ≡ false → Looks t here step) → Advances t sets most (record { going = step.going; sets = step.sets; passed = swept.passed })
+      pub advanced_live : swept.end ≡ halt.Live → (dead_at t here ≡ false → Looks t here going to) → Advanced
       advanced_live e looks = let w = as_ended halt.Live e in advanced w.0 w.1 w.2 w.3 (looks (sym here_dead ∙ w.4))
 
-      pub advanced_over : swept.end ≡ halt.Over → Next t here step → Advances t sets most (record { going = step.going; sets = step.sets; passed = swept.passed })
-      advanced_over e next = let w = as_ended halt.Over e in advanced w.0 w.1 w.2 w.3 (looks_dead t here step (sym here_dead ∙ w.4) next)
+      pub advanced_over : swept.end ≡ halt.Over → Next t here going to → Advanced
+      advanced_over e next = let w = as_ended halt.Over e in advanced w.0 w.1 w.2 w.3 (looks_dead t here (sym here_dead ∙ w.4) next)
 
     -- all that were allowed are dead
-    pub advanced_spent : swept.end ≡ halt.Spent → 0 < most → Advances t sets most (record { going = On; sets = here; passed = swept.passed })
-    advanced_spent e h =
+    pub advanced_spent : (from : Going) → count < end → swept.end ≡ halt.Spent
+        → Advances t (record { going = from; sets = sets; count = count }) end (record { going = On; sets = here; count = count + swept.passed })
+    advanced_spent from below e =
         let w = as_ended halt.Spent e in
-        let q : swept.passed ≡ most = w.0 in
+        let q : swept.passed ≡ end - count = w.0 in
         record {
+          many = swept.passed;
           some = omega arith;
-          few = sweeps.few;
-          goes = record { leads = here_moves swept.passed w.1 w.2; keeps = here_keeps };
+          few = omega arith;
+          ran = record { counted = refl; goes = record { leads = here_moves swept.passed w.1 w.2; keeps = here_keeps } };
           parent = λ _. omega arith;
         }

@@ -1,7 +1,7 @@
 -- The walk: a run from the root with the budget as its share.
 --
 --   fresh_sound        == the root
---   walked_few, walked_found, walked_over, walked_spent == the outcome, where the run ended
+--   walked_few, walked_found, walked_over, walked_spent, walked_outcome == the outcome, where the run ended
 use Rattle.std.specs.Prelude.{◌≡◌, refl, List, [], ◌∷◌, ℕ, suc, ◌+◌, ◌-◌, ◌^◌, ◌≤◌}
 use Rattle.std.proofs.Common.{sym, ap₂, subst, ◌∙◌}
 use Rattle.std.proofs.Math.Path.{ap}
@@ -15,7 +15,7 @@ use Rattle.node.specs.Node.{node_of}
 use Rattle.walk.specs.declared.Going.{Going}
 use Rattle.walk.specs.declared.Going.TheVariants.{Solved, On, Over}
 use Rattle.walk.specs.declared.State.{State}
-use Rattle.walk.specs.Step.{LiveAboveAt, Sound, rest, Leads, RunsOn, RunsAs, Runs, Fresh}
+use Rattle.walk.specs.Step.{LiveAboveAt, Sound, rest, Leads, RunsOn, RunsAs, Runs, Fresh, outcome_as, outcome_of}
 use Rattle.walk.specs.StepLaws.{goes_as}
 
 module _ (t : Table) (root : State) (fresh : Fresh root) where
@@ -70,3 +70,13 @@ module _ (t : Table) (root : State) (fresh : Fresh root) where
         sym (start ∙ scan_moves b 0 (leads On e) run.few ∙ ap (scan (ends (role_order t) t) (b - run.many) (0 + run.many)) first.1
         ∙ scan_spent (ends (role_order t) t) (b - run.many) (0 + run.many) (node_of state.sets) first.0 (omega arith)
         ∙ ap budget (let z : 0 + run.many ≡ state.count = omega (arith, counted) in z))
+
+    -- the outcome, wherever the run ended
+    pub walked_outcome : outcome_of state ≡ outcome (role_order t) t b
+    unfolding outcome_of
+    walked_outcome = at state.going refl
+      where
+        at : (g : Going) → state.going ≡ g → outcome_as g state.count (node_of state.sets) ≡ outcome (role_order t) t b
+        at Solved e = walked_found e
+        at On e = walked_spent e
+        at Over e = walked_over e

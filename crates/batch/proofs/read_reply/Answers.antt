@@ -5,5 +5,4 @@ use Rattle.batch.proofs.read_reply.Goals as goal
 
 pub returns : goal.returns
 returns c =
-    let is = read_is c.requires _ c.read-a.result c.read-a.ensures (omega arith, (omega arith, (omega arith, (omega arith, (omega arith, (omega arith, (omega arith, (omega arith, tt)))))))) c.read_line.ensures in
-    record { prefix_len = is.0; line_after = is.1 }
+    read_is (omega arith) _ c.read-a.result c.read-a.ensures (grind arith) c.read_line-end.ensures

@@ -5,5 +5,4 @@ use Rattle.batch.proofs.solve_reply.Goals as goal
 
 pub returns : goal.returns
 returns c =
-    let is = solve_is c.requires.1 _ _ _ _ c.solve-a.result c.solve-a.ensures.numbers c.solve-a.ensures.output (omega arith, (omega arith, (omega arith, tt))) (omega arith) c.solve_line.ensures in
-    record { prefix_len = is.0; line_after = is.1 }
+    solve_is (omega arith) _ _ _ _ c.solve-a.result c.solve-a.ensures.numbers c.solve-a.ensures.output (grind arith) (omega arith) c.solve_line-end.ensures

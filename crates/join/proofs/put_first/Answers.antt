@@ -1,7 +1,6 @@
 -- `join::put_first` meets its contract. The line fits into its array.
-use mathlib.Core.Path.{refl}
-use native.Mathlib.Omega.{arith}
-use Rattle.spell.specs.WindowLaws.{shown_as}
+use Rattle.std.proofs.Common.{refl, arith}
+use Rattle.spell.specs.PennedLaws.{penned_as}
 use Rattle.join.proofs.PartLaws.{first_line_lem}
 use Rattle.join.proofs.put_first.Goals as goal
 
@@ -12,4 +11,4 @@ pub slice_bounds-put-end : goal.slice_bounds-put-end
 slice_bounds-put-end c = (first_line_lem _ (omega arith, (omega arith, (omega arith, tt))) refl (omega arith) c.read_line-n.ensures).0.1
 
 pub returns : goal.returns
-returns c = shown_as c.put.ensures (first_line_lem _ (omega arith, (omega arith, (omega arith, tt))) refl (omega arith) c.read_line-n.ensures).1
+returns c = penned_as c.put.ensures (first_line_lem _ (omega arith, (omega arith, (omega arith, tt))) refl (omega arith) c.read_line-n.ensures).1

@@ -1,27 +1,20 @@
--- `level::child_is_dead` meets its contract: a law for each of its three ends.
-use mathlib.Core.Path.{◌∙◌}
-use native.Mathlib.Omega.{arith}
-use Rattle.level.specs.ChildLaws.{child_place, child_turns, child_leaves, child_lines, child_fails}
-use Rattle.std.proofs.Common.{rules}
+-- `level::child_is_dead` meets its contract: a law for each of its ends.
+use Rattle.std.proofs.Common.{◌∙◌, ap, not, ne_eqb}
+use Rattle.level.specs.ChildLaws.{child_turns, child_leaves, child_lines, child_fails}
 use Rattle.level.proofs.child_is_dead.Goals as goal
 
-pub overflow_sub-x : goal.overflow_sub-x
-overflow_sub-x c = let h = child_place c.requires in search rules
+pub returns-then-turns : goal.returns-then-turns
+returns-then-turns c = ap not (ne_eqb _ _ c.if-turns.true) ∙ child_turns c.requires.0 c.args.table.reads c.requires.2 (rw c.requires.1 at c.if-turns.true)
 
-pub offset_bounds-set-k : goal.offset_bounds-set-k
-offset_bounds-set-k c = let h = child_place c.requires in search rules
-
-pub bounds-set-k : goal.bounds-set-k
-bounds-set-k c = let h = child_place c.requires in let r = c.requires.room in omega arith
-
-pub returns-then-x-turning-ne0 : goal.returns-then-x-turning-ne0
-returns-then-x-turning-ne0 c = child_turns c.requires c.if-x-turning-ne0.true
-
-pub returns-then-x-leaving-ne0 : goal.returns-then-x-leaving-ne0
-returns-then-x-leaving-ne0 c = child_leaves c.requires c.if-x-turning-ne0.false c.if-x-leaving-ne0.true
+pub returns-else-not-leaves : goal.returns-else-not-leaves
+returns-else-not-leaves c =
+    ap (λ b. not (not b)) (ne_eqb _ _ c.if-not-leaves.false)
+    ∙ child_leaves c.requires.0 c.args.table.reads c.requires.2 (rw c.requires.1 at c.if-turns.false) (rw c.requires.1 at c.if-not-leaves.false)
 
 pub fresh_fails-requires : goal.fresh_fails-requires
-fresh_fails-requires c = child_lines c.requires c.if-x-turning-ne0.false
+fresh_fails-requires c = child_lines c.requires.0 c.args.table.reads c.requires.2 (rw c.requires.1 at c.if-turns.false)
 
-pub returns : goal.returns
-returns c = c.fresh_fails.ensures ∙ child_fails c.requires c.if-x-turning-ne0.false c.if-x-leaving-ne0.false
+pub returns-then-not-leaves : goal.returns-then-not-leaves
+returns-then-not-leaves c =
+    c.fresh_fails.ensures
+    ∙ child_fails c.requires.0 c.args.table.reads c.requires.2 (rw c.requires.1 at c.if-turns.false) (rw c.requires.1 at c.if-not-leaves.true)

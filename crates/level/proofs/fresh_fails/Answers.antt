@@ -1,30 +1,28 @@
--- `level::fresh_fails` meets its contract. The invariant: none of the first i lines listed fails. The measure is what is left of them.
-use native.Mathlib.Omega.{arith}
-use Rattle.level.specs.ListedLaws.{lines_start, lines_fail, lines_next, lines_whole}
-use Rattle.std.proofs.Common.{rules}
-use Rattle.std.proofs.Common.{ap, not}
+-- `level::fresh_fails` meets its contract.
+use Rattle.std.proofs.Common.{◌≡◌, ◌<◌, ap, ◌∙◌, arith, rules, not, length, get_or-take, length-take-le}
+use Rattle.bounds.specs.Bounds.{max_lines}
+use Rattle.level.specs.ListedLaws.{lines_start, lines_fail, lines_next}
 use Rattle.level.proofs.fresh_fails.Goals as goal
 
-pub loop-i-init : goal.loop-i-init
-loop-i-init c = (omega arith, lines_start _ _ _)
+pub loop-n-init : goal.loop-n-init
+loop-n-init c = lines_start _ _ _
 
-pub bounds-fresh-i : goal.bounds-fresh-i
-bounds-fresh-i c = let f = c.requires.few_fit in let k = c.loop-i-test.true in omega arith
-
-pub offset_bounds-start-n : goal.offset_bounds-start-n
-offset_bounds-start-n c = let h = (c.requires.each _ _ c.loop-i-test.true c.wide-n.ensures).inside in search rules
-
-pub bounds-start-n : goal.bounds-start-n
-bounds-start-n c = let h = (c.requires.each _ _ c.loop-i-test.true c.wide-n.ensures).inside in omega arith
-
-pub line_holds-requires : goal.line_holds-requires
-line_holds-requires c = (c.requires.each _ _ c.loop-i-test.true c.wide-n.ensures).test
+pub bounds-prepared-from : goal.bounds-prepared-from
+bounds-prepared-from c =
+    let f = c.requires.few_fit in let level = c.args.level.now in let r : length level.fresh ≡ max_lines = search rules in
+    let h : c.loop-n.n-index < level.few = omega (arith, length-take-le level.few level.fresh (omega arith)) in
+    (c.requires.each _ _ h (c.from.ensures ∙ get_or-take _ _ _ _ h)).inside
 
 pub returns-then-not-line_holds : goal.returns-then-not-line_holds
-returns-then-not-line_holds c = lines_fail _ _ _ _ _ c.wide-n.ensures _ (c.line_holds.ensures _ (c.requires.each _ _ c.loop-i-test.true c.wide-n.ensures).line (c.requires.each _ _ c.loop-i-test.true c.wide-n.ensures).begins) _ c.loop-i-test.true (ap not c.if-not-line_holds.true)
+returns-then-not-line_holds c =
+    let f = c.requires.few_fit in let level = c.args.level.now in let r : length level.fresh ≡ max_lines = search rules in
+    let h : c.loop-n.n-index < level.few = omega (arith, length-take-le level.few level.fresh (omega arith)) in
+    let is = c.from.ensures ∙ get_or-take _ _ _ _ h in let g = c.requires.each _ _ h is in
+    lines_fail _ _ _ _ _ is _ (c.line_holds.ensures _ g.line (c.from-at.ensures ∙ g.begins)) _ h (ap not c.if-not-line_holds.true)
 
-pub loop-i-preserved : goal.loop-i-preserved
-loop-i-preserved c = (omega arith, lines_next _ _ _ _ _ c.wide-n.ensures _ (c.line_holds.ensures _ (c.requires.each _ _ c.loop-i-test.true c.wide-n.ensures).line (c.requires.each _ _ c.loop-i-test.true c.wide-n.ensures).begins) (ap not c.if-not-line_holds.false) c.loop-i.invariant.1)
-
-pub returns : goal.returns
-returns c = lines_whole _ _ _ _ _ c.loop-i.invariant.0 c.loop-i-test.false c.loop-i.invariant.1
+pub loop-n-preserved : goal.loop-n-preserved
+loop-n-preserved c =
+    let f = c.requires.few_fit in let level = c.args.level.now in let r : length level.fresh ≡ max_lines = search rules in
+    let h : c.loop-n.n-index < level.few = omega (arith, length-take-le level.few level.fresh (omega arith)) in
+    let is = c.from.ensures ∙ get_or-take _ _ _ _ h in let g = c.requires.each _ _ h is in
+    lines_next _ _ _ _ _ is _ (c.line_holds.ensures _ g.line (c.from-at.ensures ∙ g.begins)) (ap not c.if-not-line_holds.false) c.loop-n.invariant

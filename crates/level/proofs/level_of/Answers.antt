@@ -1,19 +1,21 @@
 -- `level::level_of` meets its contract: the marks of what leads to the newest variable and to those after it, and the lines that pass.
-use native.Mathlib.Omega.{arith}
-use Rattle.level.specs.LevelLaws.{parent_depends, level_made}
+use Rattle.std.proofs.Common.{◌≡◌, ◌-◌, ◌*◌, ◌%◌, ◌^◌, subst, arith, rules, ℕ, List, length, take, take_all, length-take-le}
+use Rattle.bounds.specs.Bounds.{max_variables, masks}
+use Rattle.node.specs.Marks.{depends_in, LeadsInto}
+use Rattle.level.specs.Level.{Levels}
+use Rattle.level.specs.LevelLaws.{level_made}
 use Rattle.level.proofs.level_of.Goals as goal
 
-pub leading_to-back-requires : goal.leading_to-back-requires
-leading_to-back-requires c = let p = c.requires in parent_depends c.args.set.now p.0.depends p.0.some p.1
-
-pub leading_to-out-requires : goal.leading_to-out-requires
-leading_to-out-requires c = let p = c.requires in parent_depends c.args.set.now p.0.depends p.0.some p.1
-
 pub returns : goal.returns
-returns c = λ t known small fills made few.
-    let p = c.requires in
-    let n = p.1 in
-    let h = p.0.depends.few_variables in let s = p.0.some in
-    level_made t known small _ _ _ fills _ _ (omega arith) (omega arith) _ _ c.first_mask.ensures c.others-later.ensures _ _ _ _ _ _ _ c.collect.result made
-    c.leading_to-back.ensures.0 c.leading_to-back.ensures.1 c.leading_to-out.ensures.0 c.leading_to-out.ensures.1 c.others-near.ensures
-    c.collect.ensures.0 c.collect.ensures.1 c.collect.ensures.2
+returns c = λ t known small fills made chosen.
+    let p = c.requires in let d = p.few_variables in let s = p.some in
+    let set = c.args.sets.now.set in let y = c.args.sets.now.chosen - 1 in let f = c.args.fillers in
+    let r : length set ≡ max_variables = search rules in
+    let many : length (take y set) ≡ y = length-take-le y set (omega arith) in
+    let back = subst (λ (n : ℕ). LeadsInto (depends_in f.masks.now f.constants (length f.masks.now) (take y set) n) (1 * 2 ^ y % masks) c.leading_to-back.result.marked) many c.leading_to-back.ensures.0 in
+    let out = subst (λ (n : ℕ). LeadsInto (depends_in f.masks.now f.constants (length f.masks.now) (take y set) n) c.others-later.result c.leading_to-out.result.marked) many c.leading_to-out.ensures.0 in
+    subst (λ (z : List ℕ). Levels t z c.args.lines.now.count c.collect.result) (take_all y (take y set) (omega arith))
+    (level_made t known small _ _ _ fills (take y set) y (omega arith) (omega arith)
+    _ _ c.first_mask.ensures c.others-later.ensures _ _ _ _ _ _ _ c.collect.result made
+    back c.leading_to-back.ensures.1 out c.leading_to-out.ensures.1 c.others-near.ensures
+    c.collect.ensures.0 c.collect.ensures.1 c.collect.ensures.2)

@@ -4,6 +4,4 @@ use Rattle.listing.proofs.Laws.{report_is}
 use Rattle.listing.proofs.report.Goals as goal
 
 pub returns : goal.returns
-returns c =
-    let is = report_is _ c.solve-a.result _ c.solve-a.ensures.numbers c.solve-a.ensures.output (omega arith, (omega arith, (omega arith, tt))) c.requires c.listing.ensures in
-    record { prefix_len = is.0; buffer_after = is.1 }
+returns c = report_is _ c.solve-a.result _ c.solve-a.ensures.numbers c.solve-a.ensures.output (grind arith) (omega arith) c.listing-end.ensures

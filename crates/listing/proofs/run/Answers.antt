@@ -9,12 +9,12 @@ use Rattle.listing.proofs.run.Goals as goal
 pub returns-clause-text : goal.returns-clause-text
 returns-clause-text g c =
     let room : length c.read_full.new.buffer ≡ enough_length = search rules in
-    run_is _ _ _ _ room c.in_ok-n.ensures.known c.report-end.ensures.buffer_after c.write_full.result _ _ c.write_full.ensures.bytes
+    run_is _ _ _ _ room c.in_ok-n.ensures.known c.report-text.ensures c.write_full.result _ _ c.write_full.ensures.bytes
 
 pub returns-clause-err : goal.returns-clause-err
 returns-clause-err g c =
     let room : length c.read_full.new.buffer ≡ enough_length = search rules in
-    run_part _ _ _ _ room c.in_ok-n.ensures.known c.report-end.ensures.buffer_after c.write_full.result _ _ c.write_full.ensures.err
+    run_part _ _ _ _ room c.in_ok-n.ensures.known c.report-text.ensures c.write_full.result _ _ c.write_full.ensures.err
 
 pub returns-in_err-n-clause-err : goal.returns-in_err-n-clause-err
 returns-in_err-n-clause-err g c = none_written report_text report_some c.from_residual.result (g.R.Read.remaining c.args.input.now) (g.W.Write.contents c.args.output.now)

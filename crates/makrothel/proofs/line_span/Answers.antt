@@ -1,28 +1,31 @@
 -- `makrothel::line_span` meets its contract: a law for an unreadable table, one for a line number of m or more, and one for the line that is there.
-use mathlib.Core.Path.{sym, ap, ◌∙◌}
-use native.Mathlib.Omega.{arith}
+use Rattle.std.proofs.Common.{◌≡◌, Some, None, length, ◌+◌, ◌<◌, sym, ap, subst, ◌∙◌, arith}
 use Rattle.table.specs.declared.Header.{Header}
-use Rattle.table.specs.LayoutLaws.{readable_is}
-use Rattle.makrothel.proofs.Laws.{header_there, line_refused, line_over, line_room_lem, line_there}
+use Rattle.table.specs.Reading.{byte_at, header_of}
+use Rattle.table.specs.LayoutLaws.{left_many}
+use Rattle.makrothel.specs.Answer.{SpanIs}
+use Rattle.makrothel.proofs.Laws.{refused_by, line_refused, line_over, line_room_lem, line_there}
 use Rattle.makrothel.proofs.line_span.Goals as goal
+use Rattle.makrothel.proofs.line_span.Goals.{After-left_count}
 
-pub returns-in-Refused : goal.returns-in-Refused
-returns-in-Refused c = line_refused _ _ _ (sym c.check.ensures ∙ c.in-Refused.is)
+-- the line is there, and its left count is the byte where it begins
+few : (c : After-left_count) → c.args.n < (header_of c.in-Ok.readable.bytes.now).m
+few c = omega (arith, ap (λ (h : Header). h.m) c.header.ensures)
 
-pub header_of-header-requires : goal.header_of-header-requires
-header_of-header-requires c = header_there _ (sym c.check.ensures ∙ c.in-Readable.is)
+counted : (c : After-left_count) → c.left_count.result ≡ byte_at c.in-Ok.readable.bytes.now c.line_start-start.result
+counted c = c.left_count.ensures c.args.n (few c) c.line_start-start.ensures ∙ sym (left_many _ c.in-Ok.readable.reads _ c.args.n (few c) c.line_start-start.ensures)
 
-pub returns-then-lines-n : goal.returns-then-lines-n
-returns-then-lines-n c = line_over _ (sym c.check.ensures ∙ c.in-Readable.is) _ _ c.header_of-header.ensures (omega arith)
+pub returns-in_default : goal.returns-in_default
+unfolding SpanIs
+returns-in_default c = line_refused _ _ _ (refused_by _ c.check.result c.check.ensures.err c.in_default.not-Ok).1
 
-pub line_start-at-requires : goal.line_start-at-requires
-line_start-at-requires c = (readable_is _ (sym c.check.ensures ∙ c.in-Readable.is), omega (arith, ap (λ (h : Header). h.m) c.header_of-header.ensures))
-
-pub bounds-table-at : goal.bounds-table-at
-bounds-table-at c = omega (arith, line_room_lem _ (sym c.check.ensures ∙ c.in-Readable.is) _ _ (omega (arith, ap (λ (h : Header). h.m) c.header_of-header.ensures)) c.line_start-at.ensures)
+pub returns-then-from-n : goal.returns-then-from-n
+returns-then-from-n c = subst (λ s. SpanIs s c.args.n None) c.in-Ok.ensures.ok (unfold SpanIs in line_over _ c.in-Ok.readable.reads _ _ c.header.ensures (omega arith))
 
 pub overflow_add-result : goal.overflow_add-result
-overflow_add-result c = omega (arith, line_room_lem _ (sym c.check.ensures ∙ c.in-Readable.is) _ _ (omega (arith, ap (λ (h : Header). h.m) c.header_of-header.ensures)) c.line_start-at.ensures)
+overflow_add-result c = omega (arith, ap length c.in-Ok.ensures.ok, counted (goal.at.overflow_add-result c).After-left_count, line_room_lem _ c.in-Ok.readable.reads _ _ (few (goal.at.overflow_add-result c).After-left_count) c.line_start-start.ensures)
 
 pub returns : goal.returns
-returns c = line_there _ (sym c.check.ensures ∙ c.in-Readable.is) _ _ (omega (arith, ap (λ (h : Header). h.m) c.header_of-header.ensures)) c.line_start-at.ensures _ c.wide.ensures
+returns c =
+    subst (λ s. SpanIs s c.args.n (Some (record { start = c.line_start-start.result; length = c.left_count.result + 2 }))) c.in-Ok.ensures.ok
+    (unfold SpanIs in line_there _ c.in-Ok.readable.reads _ _ (few (goal.at.returns c).After-left_count) c.line_start-start.ensures _ (counted (goal.at.returns c).After-left_count))

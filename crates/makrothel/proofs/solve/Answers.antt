@@ -6,4 +6,4 @@ use Rattle.makrothel.proofs.solve.Goals as goal
 
 pub returns : goal.returns
 returns c = (let e = c.answer_to.ensures in
-    record { numbers = c.hand.ensures ∙ ap (λ (a : Answered). handed a.says) e; output = ap (λ (a : Answered). a.output) e })
+    record { numbers = c.from.ensures ∙ ap (λ (a : Answered). handed a.says) e; output = ap (λ (a : Answered). a.output) e })

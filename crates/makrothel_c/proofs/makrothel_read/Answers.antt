@@ -8,4 +8,4 @@ pub returns : goal.returns
 unfolding place_and_counts
 returns c =
     let e = c.read-a.ensures in
-    record { number = ap (λ (a : ReadAnswer). a.number) e; numbers = ap place_and_counts e }
+    record { number = ap (λ (a : ReadAnswer). a.number) e; numbers = let same = ap place_and_counts e in cc }

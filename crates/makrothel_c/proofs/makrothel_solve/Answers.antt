@@ -8,4 +8,4 @@ pub returns : goal.returns
 unfolding count_and_place
 returns c =
     let e = c.solve-a.ensures in
-    record { number = ap (λ (h : Handed). h.number) e.numbers; numbers = ap count_and_place e.numbers; output = e.output }
+    record { number = ap (λ (h : Handed). h.number) e.numbers; numbers = let same = ap count_and_place e.numbers in cc; output = e.output }

@@ -1,18 +1,29 @@
 -- `node::is_dead` meets its contract: the cycle test, and else the first line that fails.
-use mathlib.Core.Path.{sym, ◌∙◌}
-use native.Mathlib.Omega.{arith}
+use Rattle.std.proofs.Common.{sym, ap, ◌∙◌, not, arith}
 use Rattle.el.specs.TestLaws.{true_is}
-use Rattle.node.specs.DeadLaws.{node_few, node_fills, node_depends, dead_cycle, dead_first}
+use Rattle.table.specs.LayoutLaws.{layout}
+use Rattle.node.specs.DeadLaws.{node_few, prepared_counts, node_counts, node_length, node_acyclic, dead_cycle, dead_first}
 use Rattle.node.proofs.is_dead.Goals as goal
 
+pub fillers-requires : goal.fillers-requires
+fillers-requires c = let q = node_counts c.args.table.reads (prepared_counts c.requires.1) in (q.0, q.1)
+
+pub node-requires : goal.node-requires
+node-requires c = (node_few c.args.table.reads c.requires.0).0
+
 pub is_acyclic-requires : goal.is_acyclic-requires
-is_acyclic-requires c = let p = c.requires in (node_depends p.0 p.1 _ (omega arith), p.0.chosen)
+is_acyclic-requires c = let p = c.requires in
+    let v = p.1.rows.variables in let h = p.0.chosen in let f = (layout _ c.args.table.reads).few_variables in let l = node_length c.args.table.reads p.1 p.0 in
+    (omega arith, rw c.node.ensures (omega arith))
 
 pub returns-then-not-is_acyclic : goal.returns-then-not-is_acyclic
-returns-then-not-is_acyclic c = let p = c.requires in dead_cycle p.0 (sym c.if-not-is_acyclic.true ∙ c.is_acyclic.ensures _ (node_fills p.0 p.1.fills) (node_few p.0).1)
+returns-then-not-is_acyclic c = let p = c.requires in let f = c.fillers.ensures in
+    ap not c.if-not-is_acyclic.true ∙ dead_cycle c.args.table.reads p.0 (sym c.if-not-is_acyclic.true ∙ node_acyclic c.args.table.reads p.1 p.0 f.0 f.1 c.node.ensures _ c.is_acyclic.ensures)
 
 pub first_failing-requires : goal.first_failing-requires
-first_failing-requires c = let p = c.requires in (p.0, p.1, true_is _ (sym (c.is_acyclic.ensures _ (node_fills p.0 p.1.fills) (node_few p.0).1) ∙ c.if-not-is_acyclic.false))
+first_failing-requires c = let p = c.requires in let f = c.fillers.ensures in
+    (p.0, p.1, true_is _ (sym (node_acyclic c.args.table.reads p.1 p.0 f.0 f.1 c.node.ensures _ c.is_acyclic.ensures) ∙ c.if-not-is_acyclic.false))
 
-pub returns : goal.returns
-returns c = let p = c.requires in dead_first p.0 (true_is _ (sym (c.is_acyclic.ensures _ (node_fills p.0 p.1.fills) (node_few p.0).1) ∙ c.if-not-is_acyclic.false)) c.first_failing.ensures
+pub returns-else-not-is_acyclic : goal.returns-else-not-is_acyclic
+returns-else-not-is_acyclic c = let p = c.requires in let f = c.fillers.ensures in
+    dead_first c.args.table.reads (prepared_counts p.1) p.0 (true_is _ (sym (node_acyclic c.args.table.reads p.1 p.0 f.0 f.1 c.node.ensures _ c.is_acyclic.ensures) ∙ c.if-not-is_acyclic.false)) c.first_failing.ensures

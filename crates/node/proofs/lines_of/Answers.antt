@@ -1,45 +1,36 @@
--- `node::lines_of` meets its contract. The invariant: the masks and starts of the first n lines are made, and `at` is where line n begins; the measure is what is left of m.
-use native.Mathlib.Omega.{arith}
+-- `node::lines_of` meets its contract.
+use Rattle.std.proofs.Common.{arith, rules, ◌≡◌, ap}
+use Rattle.table.specs.declared.Header.{Header}
+use Rattle.table.specs.Reading.{header_of}
 use lib.ListN.{length-set}
 use Rattle.table.specs.LayoutLaws.{layout}
 use Rattle.table.specs.LengthLaws.{place_fits}
-use Rattle.node.specs.MaskLaws.{each_none, each_set, each_whole}
+use Rattle.node.specs.MaskLaws.{each_set}
 use Rattle.node.specs.LineLaws.{line_next}
-use Rattle.std.proofs.Common.{rules}
 use Rattle.node.proofs.lines_of.Goals as goal
 
-pub line_start-at-requires : goal.line_start-at-requires
-line_start-at-requires c = (c.requires.filled.0, omega arith)
+pub bounds-lines-n : goal.bounds-lines-n
+bounds-lines-n c = let z : c.header.result.m ≡ (header_of c.args.table.bytes.now).m = ap (λ (h : Header). h.m) c.header.ensures in let h = (layout _ c.args.table.reads).few_lines in let i = c.loop-n.invariant.count in omega arith
 
-pub loop-n-init : goal.loop-n-init
-loop-n-init c = let h = (layout _ c.requires.filled.0).few_lines in (omega arith, omega arith, search rules, search rules, c.line_start-at.ensures, each_none, each_none)
+pub overflow_cast-lines : goal.overflow_cast-lines
+overflow_cast-lines c = let z : c.header.result.m ≡ (header_of c.args.table.bytes.now).m = ap (λ (h : Header). h.m) c.header.ensures in let i = c.loop-n.invariant in let q = i.count in
+    let h = place_fits _ c.args.table.reads c.loop-n.n _ (omega arith) i.begins in search rules
 
-pub line_mask-requires : goal.line_mask-requires
-line_mask-requires c = let p = c.requires in let i = c.loop-n.invariant in record { filled = p.filled; room = (p.room.0, record { number = c.loop-n.n; few = omega arith; begins = i.4 }) }
-
-pub overflow_cast-start : goal.overflow_cast-start
-overflow_cast-start c = let p = c.requires in let q = p.room.1 in
-    let h = place_fits _ p.filled.0 c.loop-n.n _ (omega arith) c.loop-n.invariant.4 in search rules
-
-pub left_count-requires : goal.left_count-requires
-left_count-requires c = let p = c.requires in let i = c.loop-n.invariant in (p.filled.0, record { number = c.loop-n.n; few = omega arith; begins = i.4 })
+pub bounds-lines-n-in-loop-n : goal.bounds-lines-n-in-loop-n
+bounds-lines-n-in-loop-n c = let z : c.header.result.m ≡ (header_of c.args.table.bytes.now).m = ap (λ (h : Header). h.m) c.header.ensures in let h = (layout _ c.args.table.reads).few_lines in let i = c.loop-n.invariant.count in omega arith
 
 pub overflow_add-at : goal.overflow_add-at
-overflow_add-at c = let p = c.requires in omega (arith, line_next _ p.filled.0 _ _ _ (let q = p.room.1 in omega arith) c.loop-n.invariant.4 c.left_count.ensures)
+overflow_add-at c = let z : c.header.result.m ≡ (header_of c.args.table.bytes.now).m = ap (λ (h : Header). h.m) c.header.ensures in let q = c.loop-n.invariant.count in omega (arith, line_next _ c.args.table.reads _ _ _ (omega arith) c.loop-n.invariant.begins c.left_count.ensures)
 
 pub overflow_add-at-in-loop-n : goal.overflow_add-at-in-loop-n
-overflow_add-at-in-loop-n c = let p = c.requires in omega (arith, line_next _ p.filled.0 _ _ _ (let q = p.room.1 in omega arith) c.loop-n.invariant.4 c.left_count.ensures)
+overflow_add-at-in-loop-n c = let z : c.header.result.m ≡ (header_of c.args.table.bytes.now).m = ap (λ (h : Header). h.m) c.header.ensures in let q = c.loop-n.invariant.count in omega (arith, line_next _ c.args.table.reads _ _ _ (omega arith) c.loop-n.invariant.begins c.left_count.ensures)
 
 pub loop-n-preserved : goal.loop-n-preserved
-loop-n-preserved c = let p = c.requires in let q = p.room.1 in let i = c.loop-n.invariant in (
-  omega arith,
-  i.1,
-  simp length-set i.2,
-  simp length-set i.3,
-  (line_next _ p.filled.0 _ _ _ (omega arith) i.4 c.left_count.ensures).0,
-  each_set i.5 (omega arith) (c.line_mask.ensures _ (omega arith) i.4),
-  each_set i.6 (omega arith) i.4,
-)
-
-pub returns : goal.returns
-returns c = let i = c.loop-n.invariant in (each_whole i.5 i.0 c.loop-n-test.false, each_whole i.6 i.0 c.loop-n-test.false)
+loop-n-preserved c = let z : c.header.result.m ≡ (header_of c.args.table.bytes.now).m = ap (λ (h : Header). h.m) c.header.ensures in let i = c.loop-n.invariant in let q = i.count in let f = (layout _ c.args.table.reads).few_lines in record {
+  count = i.count;
+  mask_room = simp length-set i.mask_room;
+  start_room = simp length-set i.start_room;
+  begins = let h = line_next _ c.args.table.reads _ _ _ (omega arith) i.begins c.left_count.ensures in omega (arith, h.0);
+  masks = each_set i.masks (omega arith) (c.line_mask.ensures _ (omega arith) i.begins);
+  starts = each_set i.starts (omega arith) i.begins;
+}

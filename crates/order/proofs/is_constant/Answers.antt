@@ -1,19 +1,19 @@
 -- `order::is_constant` is the test `is_constant`, by the kind of the code.
-use mathlib.Core.Path.{sym, ◌∙◌}
+use Rattle.std.proofs.Common.{◌≡◌, refl, sym, ◌∙◌, ℕ}
+use Rattle.table.specs.declared.Kind.{Kind}
+use Rattle.table.specs.declared.Kind.TheVariants.{Top, Constant, Restriction, Variable, Other}
+use Rattle.table.specs.contracts.KindPartialEq.TheImpl as eq
+use Rattle.order.specs.Rule.{is_constant}
+use Rattle.order.specs.Given.{filler_from_kind}
 use Rattle.order.proofs.CodeLaws.{constant_kind}
 use Rattle.order.proofs.is_constant.Goals as goal
 
-pub returns-in-Top : goal.returns-in-Top
-returns-in-Top c = constant_kind _ _ _ (sym c.kind_of.ensures ∙ c.in-Top.is)
+eq_is : (x : Kind) (k : ℕ) → eq.eq-value.it x (Constant k) ≡ is_constant k (filler_from_kind x)
+eq_is Top k = refl
+eq_is (Constant i) k = refl
+eq_is (Restriction i) k = refl
+eq_is (Variable i) k = refl
+eq_is Other k = refl
 
-pub returns-in-Constant : goal.returns-in-Constant
-returns-in-Constant c = constant_kind _ _ _ (sym c.kind_of.ensures ∙ c.in-Constant.is)
-
-pub returns-in-Restriction : goal.returns-in-Restriction
-returns-in-Restriction c = constant_kind _ _ _ (sym c.kind_of.ensures ∙ c.in-Restriction.is)
-
-pub returns-in-Variable : goal.returns-in-Variable
-returns-in-Variable c = constant_kind _ _ _ (sym c.kind_of.ensures ∙ c.in-Variable.is)
-
-pub returns-in-Other : goal.returns-in-Other
-returns-in-Other c = constant_kind _ _ _ (sym c.kind_of.ensures ∙ c.in-Other.is)
+pub returns : goal.returns
+returns c = c.eq.ensures ∙ eq_is c.kind_of.result c.args.k ∙ constant_kind _ _ _ (sym c.kind_of.ensures)

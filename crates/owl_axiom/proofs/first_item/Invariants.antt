@@ -4,8 +4,8 @@ use lib.ListN.{length}
 use Rattle.owl_axiom.proofs.HeadLaws as laws
 use Rattle.owl_axiom.proofs.first_item.Given as goal
 
-abbrev pub invariant-loop-open : goal.invariant-loop-open
-invariant-loop-open l = (l.at ≤ length l.s) × laws.Prefixed l.s l.at
+abbrev pub invariant-loop-word : goal.invariant-loop-word
+invariant-loop-word l = (l.at ≤ length l.s) × laws.Prefixed l.s l.at
 
-abbrev pub decreases-loop-open : goal.decreases-loop-open
-decreases-loop-open l = length l.s - l.at
+abbrev pub decreases-loop-word : goal.decreases-loop-word
+decreases-loop-word l = length l.s - l.at

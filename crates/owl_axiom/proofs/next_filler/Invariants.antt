@@ -1,11 +1,7 @@
--- The invariant: `Filling`; the measure is what is left of the text.
-use Prim.Native.Nat.{◌-◌, ◌≤◌}
-use lib.ListN.{length}
+-- The invariant: the fillers from the start on are those from here on.
+use Rattle.owl_name.specs.Walk.{does_number}
 use Rattle.owl_axiom.proofs.FillerLaws as laws
 use Rattle.owl_axiom.proofs.next_filler.Given as goal
 
-abbrev pub invariant-loop-from : goal.invariant-loop-from
-invariant-loop-from l = (l.at ≤ length l.s) × (l.from ≤ l.at) × laws.Filling l.s l.from l.does l.at l.q
-
-abbrev pub decreases-loop-from : goal.decreases-loop-from
-decreases-loop-from l = length l.s - l.at
+abbrev pub invariant-loop-stop : goal.invariant-loop-stop
+invariant-loop-stop l = laws.Walked l.s l.from (does_number l.fn.does) l.stop-iterator

@@ -1,27 +1,15 @@
--- The invariant: what is left behind from the start is what is left behind from here, a byte behind some tokens; no more brackets are open than bytes were read.
-use mathlib.Core.Path.{refl, sym, ◌∙◌}
-use native.Mathlib.Omega.{arith}
-use Rattle.owl_name.proofs.RestLaws as rests
-use Rattle.owl_class.proofs.EndLaws as laws
+-- The invariant: what is left behind from the start is what is left behind from here.
+use Rattle.owl_class.proofs.ClosedLaws as laws
 use Rattle.owl_class.proofs.closed.Goals as goal
 
-pub loop-from-init : goal.loop-from-init
-loop-from-init c = (c.requires, omega arith, refl, laws.jumps_start _ _)
+pub loop-stop-init : goal.loop-stop-init
+loop-stop-init c = laws.closing_start _ _ _ _ c.requires c.from-stop-items.ensures.text c.from-stop-items.ensures.at c.into_iter-stop-iterator.ensures.into_iter_gives
 
-pub token_at-t-requires : goal.token_at-t-requires
-token_at-t-requires c = c.loop-from.invariant.0
+pub loop-stop-preserved : goal.loop-stop-preserved
+loop-stop-preserved c = laws.closing_turn _ _ _ _ _ c.next.new.self c.loop-stop.invariant _ c.in-Some.ensures.steps _ c.deeper-depth.ensures c.if-depth-eq0.false
 
-pub returns-then-kind-eq0 : goal.returns-then-kind-eq0
-returns-then-kind-eq0 c = (sym (c.loop-from.invariant.2 ∙ laws.skip_end _ _ _ _ _ _ (c.token_at-t.ensures.0, c.token_at-t.ensures.1, c.token_at-t.ensures.2) c.if-kind-eq0.true), c.loop-from.invariant.0, c.loop-from.invariant.3)
-
-pub deeper-depth-requires : goal.deeper-depth-requires
-deeper-depth-requires c = let goes = rests.token_goes _ _ _ _ _ (c.token_at-t.ensures.0, c.token_at-t.ensures.1, c.token_at-t.ensures.2) c.loop-from.invariant.0 c.if-kind-eq0.false in omega arith
+pub returns-in-None : goal.returns-in-None
+returns-in-None c = laws.closing_end _ _ _ _ _ c.next.new.self c.loop-stop.invariant c.in-None.ensures.steps
 
 pub returns-then-depth-eq0 : goal.returns-then-depth-eq0
-returns-then-depth-eq0 c = (sym (c.loop-from.invariant.2 ∙ laws.skip_stop _ _ _ _ _ _ _ (c.token_at-t.ensures.0, c.token_at-t.ensures.1, c.token_at-t.ensures.2) c.loop-from.invariant.0 c.if-kind-eq0.false c.deeper-depth.ensures c.if-depth-eq0.true), c.token_at-t.ensures.3, laws.jumps_turn _ _ _ _ _ _ (c.token_at-t.ensures.0, c.token_at-t.ensures.1, c.token_at-t.ensures.2) c.if-kind-eq0.false c.loop-from.invariant.3)
-
-pub loop-from-smaller : goal.loop-from-smaller
-loop-from-smaller c = let goes = rests.token_goes _ _ _ _ _ (c.token_at-t.ensures.0, c.token_at-t.ensures.1, c.token_at-t.ensures.2) c.loop-from.invariant.0 c.if-kind-eq0.false in omega arith
-
-pub loop-from-preserved : goal.loop-from-preserved
-loop-from-preserved c = let goes = rests.token_goes _ _ _ _ _ (c.token_at-t.ensures.0, c.token_at-t.ensures.1, c.token_at-t.ensures.2) c.loop-from.invariant.0 c.if-kind-eq0.false in let small = laws.deeper_le c.token_at-t.result.kind c.loop-from.depth in let d = c.deeper-depth.ensures in (c.token_at-t.ensures.3, omega arith, c.loop-from.invariant.2 ∙ laws.skip_on _ _ _ _ _ _ _ (c.token_at-t.ensures.0, c.token_at-t.ensures.1, c.token_at-t.ensures.2) c.loop-from.invariant.0 c.if-kind-eq0.false c.deeper-depth.ensures c.if-depth-eq0.false, laws.jumps_turn _ _ _ _ _ _ (c.token_at-t.ensures.0, c.token_at-t.ensures.1, c.token_at-t.ensures.2) c.if-kind-eq0.false c.loop-from.invariant.3)
+returns-then-depth-eq0 c = laws.closing_stop _ _ _ _ _ c.next.new.self c.loop-stop.invariant _ c.in-Some.ensures.steps _ c.deeper-depth.ensures c.if-depth-eq0.true

@@ -1,41 +1,30 @@
 -- By what the conjunct is.
-use mathlib.Core.Path.{sym, ◌∙◌}
-use Rattle.owl_name.proofs.RestLaws as rests
+use Rattle.std.proofs.Common.{sym, ◌∙◌}
 use Rattle.owl_class.proofs.EntryLaws as laws
 use Rattle.owl_class.proofs.entry_of.Goals as goal
 
-pub conjunct-found-requires : goal.conjunct-found-requires
-conjunct-found-requires c = c.requires
+pub returns-in_err-at-clause-is : goal.returns-in_err-at-clause-is
+returns-in_err-at-clause-is c = rw c.from_residual.ensures (laws.entry_none _ _ _ _ c.in_err-at.ensures.is)
 
-pub returns-then-kind-eq0 : goal.returns-then-kind-eq0
-returns-then-kind-eq0 c = laws.entry_none _ _ _ _ _ c.conjunct-found.ensures c.if-kind-eq0.true
+pub returns-in_err-at-clause-none : goal.returns-in_err-at-clause-none
+returns-in_err-at-clause-none c = rw c.from_residual.ensures (laws.none_there _ _ _ _ c.in_err-at.ensures.is)
 
-pub row_number-number-requires : goal.row_number-number-requires
-row_number-number-requires c = laws.within _ _ _ _ _ c.conjunct-found.ensures
+pub row_number-requires : goal.row_number-requires
+row_number-requires c = laws.within _ _ _ _ _ (laws.told _ _ _ _ _ c.in-Restriction.is c.in_ok-at.ensures.is)
 
-pub returns-then-kind-eq2 : goal.returns-then-kind-eq2
-returns-then-kind-eq2 c = laws.entry_row _ _ _ _ _ _ c.conjunct-found.ensures c.if-kind-eq2.true c.row_number-number.ensures
-
-pub token_at-t-requires : goal.token_at-t-requires
-token_at-t-requires c = laws.within _ _ _ _ _ c.conjunct-found.ensures
-
-pub slice_bounds-class_number-count : goal.slice_bounds-class_number-count
-slice_bounds-class_number-count c = rests.token_order _ _ _ _ _ (c.token_at-t.ensures.0, c.token_at-t.ensures.1, c.token_at-t.ensures.2)
-
-pub slice_bounds-class_number-start : goal.slice_bounds-class_number-start
-slice_bounds-class_number-start c = rests.token_order _ _ _ _ _ (c.token_at-t.ensures.0, c.token_at-t.ensures.1, c.token_at-t.ensures.2)
+pub name_at-requires : goal.name_at-requires
+name_at-requires c = laws.within _ _ _ _ _ (laws.told _ _ _ _ _ c.in-Name.is c.in_ok-at.ensures.is)
 
 pub class_number-number-requires : goal.class_number-number-requires
-class_number-number-requires c = laws.name_plain _ _ _ _ _ _ _ _ c.conjunct-found.ensures c.if-kind-eq0.false c.if-kind-eq2.false (c.token_at-t.ensures.0, c.token_at-t.ensures.1, c.token_at-t.ensures.2)
+class_number-number-requires c = laws.name_plain _ _ _ _ (laws.told _ _ _ _ _ c.in-Name.is c.in_ok-at.ensures.is) _ c.in_ok-name-in-Name.ensures.1
 
-pub slice_bounds-is_open-count : goal.slice_bounds-is_open-count
-slice_bounds-is_open-count c = rests.token_order _ _ _ _ _ (c.token_at-t.ensures.0, c.token_at-t.ensures.1, c.token_at-t.ensures.2)
+pub returns-in-Restriction-clause-is : goal.returns-in-Restriction-clause-is
+returns-in-Restriction-clause-is c = laws.entry_row _ _ _ _ _ (laws.told _ _ _ _ _ c.in-Restriction.is c.in_ok-at.ensures.is) c.row_number.ensures
 
-pub slice_bounds-is_open-start : goal.slice_bounds-is_open-start
-slice_bounds-is_open-start c = rests.token_order _ _ _ _ _ (c.token_at-t.ensures.0, c.token_at-t.ensures.1, c.token_at-t.ensures.2)
+pub returns-then-is_open-clause-is : goal.returns-then-is_open-clause-is
+returns-then-is_open-clause-is c =
+    laws.entry_open _ _ _ _ (laws.told _ _ _ _ _ c.in-Name.is c.in_ok-at.ensures.is) _ c.in_ok-name-in-Name.ensures.1 _ (sym c.is_open.ensures ∙ c.if-is_open.true) c.class_number-number.ensures
 
-pub returns-then-is_open : goal.returns-then-is_open
-returns-then-is_open c = laws.entry_open _ _ _ _ _ _ _ _ _ c.conjunct-found.ensures c.if-kind-eq0.false c.if-kind-eq2.false (c.token_at-t.ensures.0, c.token_at-t.ensures.1, c.token_at-t.ensures.2) (sym c.is_open.ensures ∙ c.if-is_open.true) c.class_number-number.ensures
-
-pub returns : goal.returns
-returns c = laws.entry_constant _ _ _ _ _ _ _ _ _ c.conjunct-found.ensures c.if-kind-eq0.false c.if-kind-eq2.false (c.token_at-t.ensures.0, c.token_at-t.ensures.1, c.token_at-t.ensures.2) (sym c.is_open.ensures ∙ c.if-is_open.false) c.class_number-number.ensures
+pub returns-else-is_open-clause-is : goal.returns-else-is_open-clause-is
+returns-else-is_open-clause-is c =
+    laws.entry_constant _ _ _ _ (laws.told _ _ _ _ _ c.in-Name.is c.in_ok-at.ensures.is) _ c.in_ok-name-in-Name.ensures.1 _ (sym c.is_open.ensures ∙ c.if-is_open.false) c.class_number-number.ensures

@@ -1,13 +1,10 @@
 -- The invariant: the lines of the axioms before byte `at` are passed; the measure is what is left of the text.
-use mathlib.Core.Path.{◌≡◌}
-use Prim.Native.Nat.{◌-◌, ◌≤◌}
-use lib.ListN.{length}
-use Rattle.bounds.specs.Bounds.{max_lines}
+use Rattle.std.proofs.Common.{◌-◌, ◌≤◌, length, Some}
 use Rattle.owl_make.proofs.LinesLaws as laws
 use Rattle.owl_make.proofs.axioms.Given as goal
 
-abbrev pub invariant-loop-passed : goal.invariant-loop-passed
-invariant-loop-passed l = (l.at ≤ length l.s) × (l.passed.lines ≤ max_lines) × (length l.out ≡ length l.initial.out) × laws.Axioms l.s l.opens l.initial.out l.at l.passed.over l.passed.lines l.passed.end l.out
+abbrev pub invariant-loop-found : goal.invariant-loop-found
+invariant-loop-found l = (l.at ≤ length l.source.text.now) × laws.Axioms l.source.text.now l.initial.out l.at (Some l.passed) l.out
 
-abbrev pub decreases-loop-passed : goal.decreases-loop-passed
-decreases-loop-passed l = length l.s - l.at
+abbrev pub decreases-loop-found : goal.decreases-loop-found
+decreases-loop-found l = length l.source.text.now - l.at

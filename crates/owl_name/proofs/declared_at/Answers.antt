@@ -1,37 +1,25 @@
 -- The invariant: the first declaration from the start is the first from here.
-use mathlib.Core.Path.{sym, ◌∙◌}
-use native.Mathlib.Omega.{arith}
-use Rattle.owl_name.specs.Declared.{declares}
-use Rattle.owl_name.proofs.NameLaws as names
+use Rattle.std.proofs.Common.{refl, sym, ◌∙◌}
+use Rattle.owl_name.specs.Declarations.{declares, declared_at}
+use Rattle.owl_name.proofs.NameLaws.{declares_none}
 use Rattle.owl_name.proofs.RestLaws as laws
 use Rattle.owl_name.proofs.declared_at.Goals as goal
 
-pub loop-sort-init : goal.loop-sort-init
-loop-sort-init c = (omega arith, laws.seek_start _ _ _)
-
-pub token_at-t-requires : goal.token_at-t-requires
-token_at-t-requires c = c.loop-sort.invariant.0
-
-pub returns-then-kind-eq0 : goal.returns-then-kind-eq0
-returns-then-kind-eq0 c = (sym (c.loop-sort.invariant.1 ∙ laws.first_end (declares _ _) (λ m. names.declares_none _ _ m c.requires) _ _ _ _ _ _ _ (c.token_at-t.ensures.0, c.token_at-t.ensures.1, c.token_at-t.ensures.2) c.if-kind-eq0.true), omega arith)
-
-pub slice_bounds-declares-count : goal.slice_bounds-declares-count
-slice_bounds-declares-count c = laws.token_order _ _ _ _ _ (c.token_at-t.ensures.0, c.token_at-t.ensures.1, c.token_at-t.ensures.2)
-
-pub slice_bounds-declares-start : goal.slice_bounds-declares-start
-slice_bounds-declares-start c = laws.token_order _ _ _ _ _ (c.token_at-t.ensures.0, c.token_at-t.ensures.1, c.token_at-t.ensures.2)
-
-pub declares-requires : goal.declares-requires
-declares-requires c = tt
+pub loop-stop-init : goal.loop-stop-init
+unfolding declared_at
+loop-stop-init c =
+    laws.seek_start (declares _ _) _ (λ m. declares_none _ _ m c.requires) _ _ _ _ c.new-stop-items.ensures.text c.new-stop-items.ensures.at c.new-stop-items.ensures.does
+    c.into_iter-stop-iterator.ensures.into_iter_gives refl
 
 pub returns-then-declares : goal.returns-then-declares
-returns-then-declares c = (sym (c.loop-sort.invariant.1 ∙ laws.first_hit (declares _ _) (λ m. names.declares_none _ _ m c.requires) _ _ _ _ _ _ _ (c.token_at-t.ensures.0, c.token_at-t.ensures.1, c.token_at-t.ensures.2) c.loop-sort.invariant.0 c.if-kind-eq0.false (sym c.declares.ensures ∙ c.if-declares.true)), (let h = laws.token_order _ _ _ _ _ (c.token_at-t.ensures.0, c.token_at-t.ensures.1, c.token_at-t.ensures.2) in omega arith))
+returns-then-declares c = record {
+  at = laws.seek_hit (declares _ _) _ (λ m. declares_none _ _ m c.requires) _ _ _ c.next.new.self _ c.loop-stop.invariant c.in-Some.ensures.steps (sym c.declares.ensures ∙ c.if-declares.true);
+  within = laws.seek_within _ _ _ _ _ c.next.new.self _ c.loop-stop.invariant c.in-Some.ensures.steps;
+}
 
-pub sort_after-does-requires : goal.sort_after-does-requires
-sort_after-does-requires c = tt
+pub loop-stop-preserved : goal.loop-stop-preserved
+loop-stop-preserved c =
+    laws.seek_miss (declares _ _) _ (λ m. declares_none _ _ m c.requires) _ _ _ c.next.new.self _ c.loop-stop.invariant c.in-Some.ensures.steps (sym c.declares.ensures ∙ c.if-declares.false)
 
-pub loop-sort-smaller : goal.loop-sort-smaller
-loop-sort-smaller c = let h = laws.token_goes _ _ _ _ _ (c.token_at-t.ensures.0, c.token_at-t.ensures.1, c.token_at-t.ensures.2) c.loop-sort.invariant.0 c.if-kind-eq0.false in omega arith
-
-pub loop-sort-preserved : goal.loop-sort-preserved
-loop-sort-preserved c = (c.token_at-t.ensures.3, c.loop-sort.invariant.1 ∙ laws.first_miss (declares _ _) (λ m. names.declares_none _ _ m c.requires) _ _ _ _ _ _ _ _ (c.token_at-t.ensures.0, c.token_at-t.ensures.1, c.token_at-t.ensures.2) c.loop-sort.invariant.0 c.if-kind-eq0.false (sym c.declares.ensures ∙ c.if-declares.false) c.sort_after-does.ensures)
+pub returns-clause-at : goal.returns-clause-at
+returns-clause-at c = laws.seek_end (declares _ _) _ (λ m. declares_none _ _ m c.requires) _ _ _ c.next.new.self c.loop-stop.invariant c.in-None.ensures.steps

@@ -1,13 +1,10 @@
 -- A name that does this, and is the same.
-use mathlib.Core.Path.{sym, ◌∙◌}
+use Rattle.std.proofs.Common.{sym, ◌∙◌}
 use Rattle.owl_name.proofs.NameLaws as laws
 use Rattle.owl_name.proofs.declares.Goals as goal
 
-pub returns-then-does-sort : goal.returns-then-does-sort
-returns-then-does-sort c = laws.declares_other _ _ _ _ _ c.if-does-sort.true
+pub returns-then-eq : goal.returns-then-eq
+returns-then-eq c = c.eq-then-eq.ensures ∙ laws.declares_at c.args.stop.now c.args.sort c.in-Some.found c.args.name _ c.in-Some.is (sym c.eq.ensures ∙ c.if-eq.true)
 
-pub returns-then-is_name : goal.returns-then-is_name
-returns-then-is_name c = c.same_name.ensures ∙ laws.declares_name _ _ _ _ _ c.if-does-sort.false (sym c.is_name.ensures ∙ c.if-is_name.true)
-
-pub returns : goal.returns
-returns c = laws.none_there _ _ (sym c.is_name.ensures ∙ c.if-is_name.false)
+pub returns-else-eq : goal.returns-else-eq
+returns-else-eq c = c.if-eq.false ∙ laws.declares_at c.args.stop.now c.args.sort c.in-Some.found c.args.name _ c.in-Some.is (sym c.eq.ensures ∙ c.if-eq.false)

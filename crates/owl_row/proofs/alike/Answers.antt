@@ -1,19 +1,19 @@
--- A role, the same role, and behind it the same name.
-use mathlib.Core.Path.{sym, ◌∙◌}
+-- The role, and behind it the filler.
+use Rattle.std.proofs.Common.{sym, ap, ◌∙◌}
+use Rattle.owl.specs.Naming.{same_name}
+use Rattle.owl_name.specs.Walk.{written, named_and}
+use Rattle.owl_name.proofs.NameLaws.{found_is}
 use Rattle.owl_row.proofs.LikeLaws as laws
 use Rattle.owl_row.proofs.alike.Goals as goal
 
-pub returns-then-does-ne4 : goal.returns-then-does-ne4
-returns-then-does-ne4 c = laws.alike_idle _ _ _ _ _ _ _ c.if-does-ne4.true
+pub returns-then-eq : goal.returns-then-eq
+returns-then-eq c =
+    c.eq-then-eq.ensures ∙ found_is c.name_at.result c.args.filler ∙ laws.filler_is c.args.s.now (written c.args.role) (written c.args.filler) _ _ c.name_at.ensures
+    ∙ sym (laws.alike_by c.args.s.now (written c.args.role) (written c.args.filler) c.args.stop.now _ _
+    (sym (c.eq.ensures ∙ found_is c.role.result c.args.role ∙ ap (named_and (same_name (written c.args.role))) c.role.ensures) ∙ c.if-eq.true))
 
-pub returns-then-not-is_name : goal.returns-then-not-is_name
-returns-then-not-is_name c = laws.alike_none _ _ _ _ _ _ _ (sym c.is_name.ensures ∙ c.if-not-is_name.true)
-
-pub returns-then-not-same_name : goal.returns-then-not-same_name
-returns-then-not-same_name c = sym (laws.alike_asked _ _ _ _ _ _ _ _ c.if-does-ne4.false (sym c.is_name.ensures ∙ c.if-not-is_name.false) (sym c.same_name.ensures ∙ c.if-not-same_name.true))
-
-pub named_at-requires : goal.named_at-requires
-named_at-requires c = c.requires
-
-pub returns : goal.returns
-returns c = c.named_at.ensures ∙ sym (laws.alike_asked _ _ _ _ _ _ _ _ c.if-does-ne4.false (sym c.is_name.ensures ∙ c.if-not-is_name.false) (sym c.same_name.ensures ∙ c.if-not-same_name.false))
+pub returns-else-eq : goal.returns-else-eq
+returns-else-eq c =
+    c.if-eq.false
+    ∙ sym (laws.alike_by c.args.s.now (written c.args.role) (written c.args.filler) c.args.stop.now c.args.stop.now.end _
+    (sym (c.eq.ensures ∙ found_is c.role.result c.args.role ∙ ap (named_and (same_name (written c.args.role))) c.role.ensures) ∙ c.if-eq.false))

@@ -1,35 +1,23 @@
--- The invariant: `Counting`; the measure is what is left of the text.
-use native.Mathlib.Omega.{arith}
-use Rattle.owl_name.proofs.RestLaws as rests
+-- The invariant: so many stand before the next stop.
+use Rattle.std.proofs.Common.{arith, ◌∙◌}
+use Rattle.owl_name.proofs.CountLaws.{byte_one}
+use Rattle.owl_name.proofs.RestLaws.{stop_in}
 use Rattle.owl_row.proofs.CountLaws as laws
 use Rattle.owl_row.proofs.different.Goals as goal
 
-pub loop-limit-init : goal.loop-limit-init
-loop-limit-init c = laws.counting_start _ _
+pub loop-stop-init : goal.loop-stop-init
+loop-stop-init c =
+    laws.counting_start _ _ _ _ c.new-stop-items.ensures.text c.new-stop-items.ensures.at c.new-stop-items.ensures.does c.into_iter-stop-iterator.ensures.into_iter_gives
 
-pub token_at-t-requires : goal.token_at-t-requires
-token_at-t-requires c = c.loop-limit.invariant.within
+pub adds-requires : goal.adds-requires
+adds-requires c = (stop_in _ c.loop-stop.stop-iterator c.next.new.self _ c.loop-stop.invariant.text c.in-Some.ensures.steps).within
 
-pub returns-then-kind-eq0 : goal.returns-then-kind-eq0
-returns-then-kind-eq0 c = laws.counting_end _ _ _ _ _ _ _ _ c.loop-limit.invariant (c.token_at-t.ensures.0, c.token_at-t.ensures.1, c.token_at-t.ensures.2) c.if-kind-eq0.true
+pub loop-stop-preserved : goal.loop-stop-preserved
+loop-stop-preserved c =
+    laws.counting_turn _ _ _ _ _ _ _ _ c.loop-stop.invariant c.in-Some.ensures.steps (let before = c.if-limit-stop.false in omega arith) c.adds.ensures (c.from-count.ensures ∙ byte_one _)
 
-pub returns-then-limit-place : goal.returns-then-limit-place
-returns-then-limit-place c = laws.counting_limit _ _ _ _ _ _ _ _ c.loop-limit.invariant (c.token_at-t.ensures.0, c.token_at-t.ensures.1, c.token_at-t.ensures.2) c.if-limit-place.true
+pub returns-in-None : goal.returns-in-None
+returns-in-None c = laws.counting_end _ _ _ c.next.new.self _ c.loop-stop.invariant c.in-None.ensures.steps
 
-pub slice_bounds-adds-count : goal.slice_bounds-adds-count
-slice_bounds-adds-count c = rests.token_order _ _ _ _ _ (c.token_at-t.ensures.0, c.token_at-t.ensures.1, c.token_at-t.ensures.2)
-
-pub slice_bounds-adds-start : goal.slice_bounds-adds-start
-slice_bounds-adds-start c = rests.token_order _ _ _ _ _ (c.token_at-t.ensures.0, c.token_at-t.ensures.1, c.token_at-t.ensures.2)
-
-pub adds-count-requires : goal.adds-count-requires
-adds-count-requires c = c.token_at-t.ensures.3
-
-pub overflow_add-count : goal.overflow_add-count
-overflow_add-count c = let few = laws.counting_few _ _ _ _ _ c.loop-limit.invariant in let goes = rests.token_goes _ _ _ _ _ (c.token_at-t.ensures.0, c.token_at-t.ensures.1, c.token_at-t.ensures.2) c.loop-limit.invariant.within c.if-kind-eq0.false in omega arith
-
-pub loop-limit-smaller : goal.loop-limit-smaller
-loop-limit-smaller c = let goes = rests.token_goes _ _ _ _ _ (c.token_at-t.ensures.0, c.token_at-t.ensures.1, c.token_at-t.ensures.2) c.loop-limit.invariant.within c.if-kind-eq0.false in omega arith
-
-pub loop-limit-preserved : goal.loop-limit-preserved
-loop-limit-preserved c = laws.counting_turn _ _ _ _ _ _ _ _ _ _ c.loop-limit.invariant (c.token_at-t.ensures.0, c.token_at-t.ensures.1, c.token_at-t.ensures.2) c.token_at-t.ensures.3 c.if-kind-eq0.false c.if-limit-place.false c.sort_after-does.ensures c.adds-count.ensures.0
+pub returns-then-limit-stop : goal.returns-then-limit-stop
+returns-then-limit-stop c = laws.counting_limit _ _ _ c.next.new.self _ _ c.loop-stop.invariant c.in-Some.ensures.steps c.if-limit-stop.true

@@ -1,11 +1,22 @@
 -- The table is the definition's.
-use mathlib.Core.Path.{◌∙◌}
-use native.Mathlib.Omega.{arith}
+use Rattle.std.proofs.Common.{◌∙◌, sym, arith, rules}
+use Rattle.owl_text.specs.Levels.{moves}
 use Rattle.owl_text.proofs.TableLaws as tables
 use Rattle.owl_text.proofs.next.Goals as goal
 
-pub returns-then-q-gt27 : goal.returns-then-q-gt27
-returns-then-q-gt27 c = (tables.next_over _ _ c.if-q-gt27.true, omega arith)
+pub returns-then-row-ge28 : goal.returns-then-row-ge28
+returns-then-row-ge28 c = tables.next_over _ _ _ c.from-row.ensures c.if-row-ge28.true
 
-pub returns : goal.returns
-returns c = tables.next_lent _ c.requires.1 c.wide.result c.wide-2.result _ _ c.wide.ensures (c.wide-2.ensures ∙ c.column.ensures.0) (omega arith) (omega arith)
+pub returns-in-90 : goal.returns-in-90
+unfolding moves
+returns-in-90 c = let t = tables.next_in c.from-row.result c.column.result _ _ c.from-row.ensures c.column.ensures.0 (omega arith) c.column.ensures.1 in sym (search rules) ∙ t.0
+
+pub returns-in-91 : goal.returns-in-91
+unfolding moves
+returns-in-91 c = let t = tables.next_in c.from-row.result c.column.result _ _ c.from-row.ensures c.column.ensures.0 (omega arith) c.column.ensures.1 in sym (search rules) ∙ t.0
+
+pub returns-in_default : goal.returns-in_default
+unfolding moves
+returns-in_default c =
+    let t = tables.next_in c.from-row.result c.column.result _ _ c.from-row.ensures c.column.ensures.0 (omega arith) c.column.ensures.1 in
+    (t.0, t.1 (λ e. search rules) (λ e. search rules))

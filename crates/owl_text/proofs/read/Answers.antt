@@ -1,44 +1,57 @@
 -- The invariant: so many tokens were read, and the array has the states of the block; the measure is what is left of the text.
-use mathlib.Core.Path.{refl, sym, ◌∙◌}
-use native.Mathlib.Omega.{arith}
+use Rattle.std.proofs.Common.{◌≡◌, ◌+◌, ◌%◌, ◌/◌, ◌<◌, subst, ◌∙◌, ℕ, get_or, arith, rules}
+use Rattle.owl_token.specs.Kind.{kind_number}
+use Rattle.owl_text.specs.Levels.{next, opened, Updated}
 use Rattle.owl_text.proofs.BlockLaws as blocks
 use Rattle.owl_text.proofs.read.Goals as goal
+use Rattle.owl_text.proofs.read.Goals.{After-max-most, else-depth-eq0-via-then-depth-eq0+else-levels-eq-DONE, else-depth-eq0-via-else-depth-eq0}
 
 pub loop-at-init : goal.loop-at-init
-loop-at-init c = blocks.reading_start c.args.s.now c.args.block
+loop-at-init c = record { same_block = search rules; so_far = blocks.reading_start c.args.s.now c.args.block }
 
-pub token_at-t-requires : goal.token_at-t-requires
-token_at-t-requires c = c.loop-at.invariant.within
+pub returns-then-levels-eq-DONE : goal.returns-then-levels-eq-DONE
+returns-then-levels-eq-DONE c =
+    blocks.found_end c.args.s.now c.args.block c.loop-at.at c.loop-at.depth c.loop-at.most c.loop-at.levels.states c.loop-at.invariant.so_far c.args.best.at c.requires.0
+    (kind_number c.token_at-t.result.kind) c.token_at-t.ensures.0 c.loop-at-test.true (search rules) _ (blocks.end_well _ _ _ c.if-depth-eq0.true c.if-levels-eq-DONE.true)
 
-pub returns-then-may_end : goal.returns-then-may_end
-returns-then-may_end c = blocks.found_end c.args.s.now c.args.block c.loop-at.at c.loop-at.depth c.loop-at.most c.loop-at.kept c.loop-at.invariant c.args.best.at c.requires.1 c.token_at-t.result.kind c.token_at-t.ensures.0 c.loop-at-test.true c.if-kind-eq0.true _ (sym c.if-may_end.true ∙ c.may_end.ensures) 0 0 refl
+pub returns-else-depth-eq0 : goal.returns-else-depth-eq0
+returns-else-depth-eq0 c =
+    blocks.found_end c.args.s.now c.args.block c.loop-at.at c.loop-at.depth c.loop-at.most c.loop-at.levels.states c.loop-at.invariant.so_far c.args.best.at c.requires.0
+    (kind_number c.token_at-t.result.kind) c.token_at-t.ensures.0 c.loop-at-test.true (search rules) _
+    (blocks.end_early _ _ _ (λ d e. elim c.else-depth-eq0.branch [
+      | else-depth-eq0-via-then-depth-eq0+else-levels-eq-DONE w ↦ w.if-levels-eq-DONE.false e
+      | else-depth-eq0-via-else-depth-eq0 w ↦ w.if-depth-eq0.false d
+    ]))
 
-pub returns-then-kind-eq0 : goal.returns-then-kind-eq0
-returns-then-kind-eq0 c = blocks.found_end c.args.s.now c.args.block c.loop-at.at c.loop-at.depth c.loop-at.most c.loop-at.kept c.loop-at.invariant c.args.best.at c.requires.1 c.token_at-t.result.kind c.token_at-t.ensures.0 c.loop-at-test.true c.if-kind-eq0.true _ (sym c.if-may_end.false ∙ c.may_end.ensures) 10 _ refl
-
-pub step_level-n-requires : goal.step_level-n-requires
-step_level-n-requires c = (c.token_at-t.ensures.4, c.requires.0)
-
-pub refusal-requires : goal.refusal-requires
-refusal-requires c = blocks.bad_number _ _ _ (sym c.refusing.ensures ∙ c.if-refusing.true)
-
-pub returns-then-refusing : goal.returns-then-refusing
-returns-then-refusing c = blocks.found_bad c.args.s.now c.args.block c.loop-at.at c.loop-at.depth c.loop-at.most c.loop-at.kept c.loop-at.invariant c.args.best.at c.requires.1 c.token_at-t.result.kind c.token_at-t.ensures.0 c.loop-at-test.true _ c.step_level-n.ensures c.if-kind-eq0.false (sym c.refusing.ensures ∙ c.if-refusing.true) _ _ c.refusal.ensures c.token_at-t.ensures.1
-
-pub overflow_add-behind : goal.overflow_add-behind
-overflow_add-behind c = let x = c.loop-at.invariant.within in let y = c.loop-at.invariant.shallow in omega arith
-
-pub overflow_add-depth : goal.overflow_add-depth
-overflow_add-depth c = let x = c.loop-at.invariant.within in let y = c.loop-at.invariant.shallow in omega arith
-
-pub deeper-depth-requires : goal.deeper-depth-requires
-deeper-depth-requires c = let x = c.loop-at.invariant.within in let y = c.loop-at.invariant.shallow in omega arith
+pub returns-in-Err : goal.returns-in-Err
+returns-in-Err c =
+    blocks.found_bad c.args.s.now c.args.block c.loop-at.at c.loop-at.depth c.loop-at.most c.loop-at.levels.states c.loop-at.invariant.so_far c.args.best.at c.requires.0
+    (kind_number c.token_at-t.result.kind) c.token_at-t.ensures.0 c.loop-at-test.true (c.in-Err.ensures.judged.0 ∙ c.loop-at.invariant.same_block) (λ e. search rules) _ _
+    c.in-Err.ensures.judged.1 c.token_at-t.ensures.1
 
 pub loop-at-smaller : goal.loop-at-smaller
-loop-at-smaller c = let z = blocks.goes c.args.s.now c.args.block c.loop-at.at c.loop-at.depth c.loop-at.most c.loop-at.kept c.loop-at.invariant c.token_at-t.result.kind c.token_at-t.ensures.0 c.if-kind-eq0.false _ c.token_at-t.ensures.2 in let y = c.token_at-t.ensures.3 in omega arith
+loop-at-smaller c =
+    let z =
+    blocks.goes c.args.s.now c.args.block c.loop-at.at c.loop-at.depth c.loop-at.most c.loop-at.levels.states c.loop-at.invariant.so_far (kind_number c.token_at-t.result.kind)
+    c.token_at-t.ensures.0 (λ e. search rules) _ c.token_at-t.ensures.2 in
+    omega arith
 
 pub loop-at-preserved : goal.loop-at-preserved
-loop-at-preserved c = blocks.reading_turn c.args.s.now c.args.block c.loop-at.at c.loop-at.depth c.loop-at.most c.loop-at.kept c.loop-at.invariant c.token_at-t.result.kind c.token_at-t.ensures.0 _ c.step_level-n.ensures c.if-kind-eq0.false (sym c.refusing.ensures ∙ c.if-refusing.false) _ _ _ _ c.token_at-t.ensures.2 c.token_at-t.ensures.3 c.deeper-depth.ensures c.open_level.ensures c.larger-most.ensures.0 c.larger-most.ensures.1
+loop-at-preserved c =
+    let same = c.loop-at.invariant.same_block in
+    let kept = c.loop-at.levels.states in
+    let depth = c.loop-at.depth in
+    let k = kind_number c.token_at-t.result.kind in
+    let turned =
+    blocks.reading_turn c.args.s.now c.args.block c.loop-at.at depth c.loop-at.most kept c.loop-at.invariant.so_far k c.token_at-t.ensures.0 (λ e. search rules)
+    c.step.new.self.states c.open.new.self.states
+    (subst (λ (b : ℕ). Updated b depth (λ q. next q k) kept c.step.new.self.states) same c.in_default.ensures.judged.0)
+    (subst (λ (b : ℕ). depth / 4096 ≡ b → next (get_or kept (depth % 4096) 0) k < 80) same c.in_default.ensures.judged.1)
+    (subst (λ (b : ℕ). Updated b (depth + 1) (opened k) c.step.new.self.states c.open.new.self.states) (c.step.ensures.block ∙ same) c.open.ensures.begun)
+    c.token_at-t.result.end c.deeper-depth.result c.max-most.result c.token_at-t.ensures.2 c.token_at-t.ensures.3 c.deeper-depth.ensures in
+    record { same_block = c.open.ensures.block ∙ c.step.ensures.block ∙ same; so_far = turned (omega arith) (omega arith) }
 
 pub returns : goal.returns
-returns c = blocks.found_before c.args.s.now c.args.block c.loop-at.at c.loop-at.depth c.loop-at.most c.loop-at.kept c.loop-at.invariant c.args.best.at c.requires.1 _ _ c.loop-at-test.false c.requires.2
+returns c =
+    blocks.found_before c.args.s.now c.args.block c.loop-at.at c.loop-at.depth c.loop-at.most c.loop-at.levels.states c.loop-at.invariant.so_far c.args.best.at c.requires.0 _
+    c.loop-at-test.false c.requires.1

@@ -1,31 +1,31 @@
 -- The invariant: the run and its shape from the start are those passed and those from here.
-use mathlib.Core.Path.{sym, ◌∙◌}
-use Prim.Native.Nat.{◌<◌, ◌≤◌, ◌+◌}
-use native.Mathlib.Omega.{arith}
-use lib.ListN.{length}
+use Rattle.std.proofs.Common.{◌+◌, sym, ◌∙◌, arith}
+use Rattle.owl_token.specs.Run.{class_number, class_number_below, shape_number, shape_number_below}
 use Rattle.owl_token.proofs.RunLaws as laws
 use Rattle.owl_token.proofs.run_at.Goals as goal
+use Rattle.owl_token.proofs.run_at.Goals.{After-plain_count-end}
 
-pub loop-i-init : goal.loop-i-init
-loop-i-init c = laws.running_start c.args.s.now c.args.at (let h : c.args.at ≤ length c.args.s.now = omega arith in h)
+-- after a plain byte and those behind it
+plain : (c : After-plain_count-end) → laws.Running c.args.s.now c.args.at (c.loop-end.end + 1 + c.plain_count-end.result) (shape_number c.shape_after-shape.result)
+plain c =
+    laws.running_plain c.args.s.now c.args.at (c.loop-end.end + 1) (shape_number c.loop-end.shape) _ _ (shape_number_below c.loop-end.shape)
+    c.shape_after-shape.ensures c.plain_count-end.ensures
+    (laws.running_on c.args.s.now c.args.at c.loop-end.end (shape_number c.loop-end.shape) 0 _ (omega arith) (laws.plain_class _ (sym c.is_plain.ensures ∙ c.if-is_plain.true))
+    (omega arith) c.shape_after-shape.ensures c.loop-end.invariant)
 
-pub shaped-m-requires : goal.shaped-m-requires
-shaped-m-requires c = (c.loop-i.invariant.2, omega arith)
+pub overflow_add-end-then-is_plain : goal.overflow_add-end-then-is_plain
+overflow_add-end-then-is_plain c = omega (arith, (plain c).1)
 
-pub loop-i-preserved-then-is_plain : goal.loop-i-preserved-then-is_plain
-loop-i-preserved-then-is_plain c = let s = c.args.s.now in let at = c.args.at in let i = c.loop-i.i in let h : i < length s = omega arith in let m = c.loop-i.m in let n = c.shaped-m.result in laws.running_plain s at (i + 1) c.plain_end-i.result n c.plain_end-i.ensures (laws.shape_keeps m n c.loop-i.invariant.2 c.shaped-m.ensures.0) (laws.running_on s at i m 0 n h (laws.plain_class _ (sym c.is_plain.ensures ∙ c.if-is_plain.true)) (omega arith) c.shaped-m.ensures.0 c.shaped-m.ensures.1 c.loop-i.invariant)
+pub loop-end-preserved-then-is_plain : goal.loop-end-preserved-then-is_plain
+loop-end-preserved-then-is_plain c = plain c
 
-pub odd_class-requires : goal.odd_class-requires
-odd_class-requires c = (sym c.is_plain.ensures ∙ c.if-is_plain.false, sym c.in_run.ensures ∙ c.if-in_run.true)
-
-pub shaped-m-requires-then-in_run : goal.shaped-m-requires-then-in_run
-shaped-m-requires-then-in_run c = (c.loop-i.invariant.2, c.odd_class.ensures.1)
-
-pub loop-i-preserved : goal.loop-i-preserved
-loop-i-preserved c = let s = c.args.s.now in let at = c.args.at in let i = c.loop-i.i in let h : i < length s = omega arith in laws.running_on s at i c.loop-i.m c.odd_class.result c.shaped-m-then-in_run.result h c.odd_class.ensures.0 (omega arith) c.shaped-m-then-in_run.ensures.0 c.shaped-m-then-in_run.ensures.1 c.loop-i.invariant
+pub loop-end-preserved : goal.loop-end-preserved
+loop-end-preserved c =
+    laws.running_on c.args.s.now c.args.at c.loop-end.end (shape_number c.loop-end.shape) (class_number c.odd_class.result) _ (omega arith) c.odd_class.ensures
+    (omega (arith, class_number_below c.odd_class.result)) c.shape_after-shape-then-in_run.ensures c.loop-end.invariant
 
 pub returns-else-in_run : goal.returns-else-in_run
-returns-else-in_run c = let s = c.args.s.now in let at = c.args.at in let i = c.loop-i.i in let h : i < length s = omega arith in laws.running_stop s at i c.loop-i.m h (sym c.in_run.ensures ∙ c.if-in_run.false) c.loop-i.invariant
+returns-else-in_run c = laws.running_stop c.args.s.now c.args.at c.loop-end.end (shape_number c.loop-end.shape) (omega arith) (sym c.in_run.ensures ∙ c.if-in_run.false) c.loop-end.invariant
 
-pub returns : goal.returns
-returns c = let s = c.args.s.now in let i = c.loop-i.i in let h : length s ≤ i = omega arith in laws.running_end s c.args.at i c.loop-i.m h c.loop-i.invariant
+pub returns-after-loop-end : goal.returns-after-loop-end
+returns-after-loop-end c = laws.running_end c.args.s.now c.args.at c.loop-end.end (shape_number c.loop-end.shape) (omega arith) c.loop-end.invariant

@@ -1,5 +1,5 @@
 -- The invariant: the blanks from the start are those passed and those from here.
-use mathlib.Core.Path.{sym, ap, ◌∙◌}
+use mathlib.Core.Path.{◌≡◌, sym, ap, ◌∙◌}
 use Prim.Native.Nat.{ℕ, ◌<◌, ◌+◌, ◌≤◌}
 use native.Mathlib.Omega.{arith}
 use lib.ListN.{length, drop}
@@ -17,4 +17,10 @@ pub loop-i-preserved : goal.loop-i-preserved
 loop-i-preserved c = let s = c.args.s.now in let i = c.loop-i.i in let m = c.loop-i.c in let h : i < length s = omega arith in let e = c.between-c.ensures.0 in (omega arith, omega arith, omega arith, c.loop-i.invariant.3 ∙ laws.skip_on s m i h (λ z. c.if-c-eq2.false (e ∙ z)) ∙ ap (λ (k : ℕ). i + 1 + blank k (drop (i + 1) s)) (sym e))
 
 pub returns : goal.returns
-returns c = let s = c.args.s.now in let i = c.loop-i.i in let m = c.loop-i.c in let h : length s ≤ i = omega arith in (sym (c.loop-i.invariant.3 ∙ laws.skip_end s m i h), omega arith)
+returns c =
+    let s = c.args.s.now in
+    let i = c.loop-i.i in
+    let m = c.loop-i.c in
+    let h : length s ≤ i = omega arith in
+    let e : i ≡ length s = omega arith in
+    (rw e at (sym (c.loop-i.invariant.3 ∙ laws.skip_end s m i h)), omega arith)

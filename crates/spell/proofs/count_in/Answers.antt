@@ -1,17 +1,11 @@
--- `spell::count_in` meets its contract. The invariant: so many of the first i atoms are in. The measure is how many are left.
-use mathlib.Core.Path.{◌≡◌, ap, ◌∙◌}
-use Prim.Native.Nat.{ℕ}
-use native.Mathlib.Omega.{arith}
-use lib.ListN.{length}
-use Rattle.text.specs.Listing.{atoms_in}
-use Rattle.spell.proofs.SpellLaws.{count_none, count_turn}
+-- `spell::count_in` meets its contract. The numbers that the filter lets through are the atoms of the set.
+use Rattle.std.proofs.Common.{rules, tests, arith, ap, ◌∙◌, length}
+use Rattle.std.proofs.lemmas.Iterator.{YieldsList-from_range}
+use Rattle.std.proofs.lemmas.Iterator.Consumers.{YieldsList-from_filter, count_from_yields_List}
+use Rattle.spell.proofs.SpellLaws.{atoms_filter}
 use Rattle.spell.proofs.count_in.Goals as goal
 
-pub loop-i-init : goal.loop-i-init
-loop-i-init c = (omega arith, omega arith, count_none _)
-
-pub loop-i-preserved : goal.loop-i-preserved
-loop-i-preserved c = (omega arith, omega (arith, c.one_if-count.ensures.1), count_turn _ _ _ _ c.loop-i.invariant.2 _ c.in_set.ensures c.one_if-count.ensures.0)
-
 pub returns : goal.returns
-returns c = c.loop-i.invariant.2 ∙ ap (λ (k : ℕ). length (atoms_in k c.args.set)) (let z : c.loop-i.i ≡ c.args.n = omega arith in z)
+returns c =
+    count_from_yields_List c.filter.result _ c.count.ensures.ran (YieldsList-from_filter _ _ (YieldsList-from_range 0 c.args.n c.args.n c.filter.ensures.source (omega arith)) c.filter.ensures.closure (λ x r q k. search (rules, tests)))
+    ∙ ap length (atoms_filter c.args.set c.args.n)

@@ -1,16 +1,22 @@
 -- `table::check` meets its contract: a law for a refused header, a refused body, and a table that is read.
-use mathlib.Core.Path.{sym, ◌∙◌}
+use Rattle.std.proofs.Common.{◌≡◌, Err, IfErr, sym, subst, rules}
+use Rattle.table.specs.Reading.{reading, refusal}
 use Rattle.table.proofs.Laws.{header_in, check_header, check_body, check_all}
 use Rattle.table.proofs.check.Goals as goal
 
 pub header_of-requires : goal.header_of-requires
-header_of-requires c = header_in _ _ (sym c.read_header.ensures ∙ c.in-Next.is)
+header_of-requires c = header_in _ _ (sym c.in_ok-read_header.ensures)
 
-pub returns-in-Next-read_body : goal.returns-in-Next-read_body
-returns-in-Next-read_body c = check_all _ _ (sym c.read_header.ensures ∙ c.in-Next.is) _ c.header_of.ensures _ (sym c.read_body.ensures ∙ c.in-Next-read_body.is)
+pub returns-in_err-read_header-clause-err : goal.returns-in_err-read_header-clause-err
+returns-in_err-read_header-clause-err c =
+    let is : c.from_residual.result ≡ Err c.in_err-read_header.field-0.0 = search rules in
+    subst (λ r. IfErr r (λ why. reading c.args.table.now ≡ refusal why)) (sym is) (check_header _ _ (sym c.in_err-read_header.ensures))
 
-pub returns-in-Stop-read_body : goal.returns-in-Stop-read_body
-returns-in-Stop-read_body c = check_body _ _ (sym c.read_header.ensures ∙ c.in-Next.is) _ c.header_of.ensures _ (sym c.read_body.ensures ∙ c.in-Stop-read_body.is)
+pub returns-in_err-read_body-clause-err : goal.returns-in_err-read_body-clause-err
+returns-in_err-read_body-clause-err c =
+    let is : c.from_residual-in_err-read_body.result ≡ Err c.in_err-read_body.field-0.0 = search rules in
+    subst (λ r. IfErr r (λ why. reading c.args.table.now ≡ refusal why)) (sym is)
+    (check_body _ _ (sym c.in_ok-read_header.ensures) _ c.header_of.ensures _ (sym c.in_err-read_body.ensures))
 
-pub returns-in-Stop : goal.returns-in-Stop
-returns-in-Stop c = check_header _ _ (sym c.read_header.ensures ∙ c.in-Stop.is)
+pub invariant_of-result : goal.invariant_of-result
+invariant_of-result c = record { reads = check_all _ _ (sym c.in_ok-read_header.ensures) _ c.header_of.ensures _ (sym c.in_ok-read_body.ensures) }

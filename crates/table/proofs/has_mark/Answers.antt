@@ -1,31 +1,23 @@
--- `table::has_mark` meets its contract: by the byte at which the test ends.
-use mathlib.Core.Path.{◌∙◌}
-use borrow.Author.Tests.{eq-eqb, ne_eqb}
+-- `table::has_mark` meets its contract: byte by byte, which `starts_with` compares the other way round.
+use Rattle.std.specs.Prelude.{◌≡◌, Bool, true, false, ◌&&◌, List, [], ◌∷◌, ℕ, eqb}
+use Rattle.std.proofs.Common.{refl, ap₂, ◌∙◌, arith}
+use Rattle.std.specs.List.{starts_with}
 use Rattle.table.specs.Reading.{marked}
-use Rattle.table.proofs.Laws.{and_stop, and_on}
-use Rattle.std.proofs.Common.{rules}
 use Rattle.table.proofs.has_mark.Goals as goal
 
-pub bounds-table-0 : goal.bounds-table-0
-unfolding marked
-bounds-table-0 c = search rules
+eqb_sym : (a b : ℕ) → eqb a b ≡ eqb b a
+eqb_sym a b = grind arith
 
-pub bounds-table-1 : goal.bounds-table-1
-unfolding marked
-bounds-table-1 c = search rules
+and_true : (a : Bool) → (a && true) ≡ a
+and_true true = refl
+and_true false = refl
 
-pub bounds-table-2 : goal.bounds-table-2
+begins_is : (s : List ℕ) → starts_with eqb s (0x56 ∷ 0x4F ∷ 0x43 ∷ []) ≡ marked s
 unfolding marked
-bounds-table-2 c = search rules
+begins_is [] = refl
+begins_is (x ∷ []) = ap₂ ◌&&◌ (eqb_sym 0x56 x) refl
+begins_is (x ∷ y ∷ []) = ap₂ ◌&&◌ (eqb_sym 0x56 x) (ap₂ ◌&&◌ (eqb_sym 0x4F y) refl)
+begins_is (x ∷ y ∷ z ∷ s) = ap₂ ◌&&◌ (eqb_sym 0x56 x) (ap₂ ◌&&◌ (eqb_sym 0x4F y) (and_true (eqb 0x43 z) ∙ eqb_sym 0x43 z))
 
-pub returns-then-table-eq79 : goal.returns-then-table-eq79
-unfolding marked
-returns-then-table-eq79 c = and_on _ (eq-eqb _ _ c.if-table-eq79.true) ∙ and_on _ (eq-eqb _ _ c.if-table-eq86.true)
-
-pub returns-else-table-eq79 : goal.returns-else-table-eq79
-unfolding marked
-returns-else-table-eq79 c = and_stop _ (ne_eqb _ _ c.if-table-eq79.false) ∙ and_on _ (eq-eqb _ _ c.if-table-eq86.true)
-
-pub returns-else-table-eq86 : goal.returns-else-table-eq86
-unfolding marked
-returns-else-table-eq86 c = and_stop _ (ne_eqb _ _ c.if-table-eq86.false)
+pub returns : goal.returns
+returns c = c.starts_with.ensures.value ∙ begins_is c.args.table.now

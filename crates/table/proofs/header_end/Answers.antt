@@ -1,11 +1,13 @@
 -- `table::header_end` meets its contract: by whether there are role rows.
-use mathlib.Core.Path.{sym, ◌∙◌}
-use mathlib.Core.Bool.{true, false}
-use Rattle.table.proofs.Laws.{end_by}
+use Rattle.std.proofs.Common.{arith}
+use Rattle.std.proofs.lemmas.Grind.{common_steps}
+use Rattle.table.specs.Reading.{header_end}
 use Rattle.table.proofs.header_end.Goals as goal
 
 pub returns-then-has_role_rows : goal.returns-then-has_role_rows
-returns-then-has_role_rows c = end_by _ true (sym c.if-has_role_rows.true ∙ c.has_role_rows.ensures)
+unfolding header_end
+returns-then-has_role_rows c = grind (arith, common_steps)
 
-pub returns : goal.returns
-returns c = end_by _ false (sym c.if-has_role_rows.false ∙ c.has_role_rows.ensures)
+pub returns-else-has_role_rows : goal.returns-else-has_role_rows
+unfolding header_end
+returns-else-has_role_rows c = grind (arith, common_steps)

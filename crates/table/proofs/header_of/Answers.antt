@@ -9,4 +9,4 @@ with-count : (n c r v e m q k : ℕ) → q ≡ k → ◌≡◌ {A = Header} (rec
 with-count n c r v e m q k p = λ i. record { version = n; c = c; r = r; v = v; e = e; m = m; q = p i }
 
 pub returns : goal.returns
-returns c = with-count _ _ _ _ _ _ _ _ c.role_count-q.ensures
+returns c = with-count _ _ _ _ _ _ _ _ c.role_count.ensures

@@ -1,12 +1,13 @@
--- `table::is_version_known` meets its contract: by the byte at which the test ends.
-use Rattle.table.proofs.Laws.{version_high, version_first, version_second}
+-- `table::is_version_known` meets its contract: by the version that the first test meets.
+use Rattle.std.proofs.Common.{arith}
+use Rattle.std.proofs.lemmas.Grind.{common_steps}
+use Rattle.table.specs.Reading.{version_known}
 use Rattle.table.proofs.is_version_known.Goals as goal
 
-pub returns-then-table-ne0 : goal.returns-then-table-ne0
-returns-then-table-ne0 c = version_high _ c.if-table-ne0.true
+pub returns-then-matches : goal.returns-then-matches
+unfolding version_known
+returns-then-matches c = grind (arith, common_steps)
 
-pub returns-then-table-eq1 : goal.returns-then-table-eq1
-returns-then-table-eq1 c = version_first _ c.if-table-ne0.false c.if-table-eq1.true
-
-pub returns : goal.returns
-returns c = version_second _ c.if-table-ne0.false c.if-table-eq1.false
+pub returns-else-matches : goal.returns-else-matches
+unfolding version_known
+returns-else-matches c = grind (arith, common_steps)

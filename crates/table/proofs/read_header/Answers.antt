@@ -1,6 +1,7 @@
 -- `table::read_header` meets its contract: a law for each refusal, in order, and one for the header that is read.
 use mathlib.Core.Path.{sym, ◌∙◌}
 use Rattle.std.specs.Prelude.{◌≡◌, true}
+use Rattle.std.proofs.Common.{rules}
 use Rattle.table.specs.Reading.{marked}
 use native.Mathlib.Omega.{arith}
 use Rattle.table.specs.ReadLaws.{header_short, header_mark, header_version}
@@ -19,10 +20,10 @@ returns-then-not-version c =
     stops (header_version _ _ (omega arith) m (sym c.is_version_known-version.ensures ∙ c.if-not-version.true))
 
 pub returns-then-table-end : goal.returns-then-table-end
-returns-then-table-end c = header_cut _ _ c.header_of.ensures (omega arith) (sym c.has_mark-mark.ensures ∙ c.if-not-mark.false) (sym c.is_version_known-version.ensures ∙ c.if-not-version.false) _ (sym c.read_counts.ensures ∙ c.in-Next.is) c.if-table-end.true
+returns-then-table-end c = header_cut _ _ c.header_of.ensures (omega arith) (sym c.has_mark-mark.ensures ∙ c.if-not-mark.false) (sym c.is_version_known-version.ensures ∙ c.if-not-version.false) _ (sym c.in_ok-end.ensures) c.if-table-end.true
 
-pub returns-else-table-end : goal.returns-else-table-end
-returns-else-table-end c = header_done _ _ c.header_of.ensures (omega arith) (sym c.has_mark-mark.ensures ∙ c.if-not-mark.false) (sym c.is_version_known-version.ensures ∙ c.if-not-version.false) _ (sym c.read_counts.ensures ∙ c.in-Next.is) (omega arith)
+pub returns : goal.returns
+returns c = header_done _ _ c.header_of.ensures (omega arith) (sym c.has_mark-mark.ensures ∙ c.if-not-mark.false) (sym c.is_version_known-version.ensures ∙ c.if-not-version.false) _ (sym c.in_ok-end.ensures) (omega arith)
 
-pub returns-in-Stop : goal.returns-in-Stop
-returns-in-Stop c = header_stop _ _ c.header_of.ensures (omega arith) (sym c.has_mark-mark.ensures ∙ c.if-not-mark.false) (sym c.is_version_known-version.ensures ∙ c.if-not-version.false) _ (sym c.read_counts.ensures ∙ c.in-Stop.is)
+pub returns-in_err-end : goal.returns-in_err-end
+returns-in_err-end c = search rules ∙ header_stop _ _ c.header_of.ensures (omega arith) (sym c.has_mark-mark.ensures ∙ c.if-not-mark.false) (sym c.is_version_known-version.ensures ∙ c.if-not-version.false) _ (sym c.in_err-end.ensures)

@@ -1,17 +1,12 @@
--- `walk::walk` meets its contract: the counts are the table's.
-use native.Mathlib.Omega.{arith}
-use Rattle.walk.specs.GivenLaws.{few_atoms, given_table}
-use Rattle.std.proofs.Common.{rules}
+-- `walk::walk` meets its contract: it is a run from the root, with the budget as its share.
+use Rattle.std.proofs.Common.{arith, rules}
+use Rattle.table.specs.LayoutLaws.{layout}
+use Rattle.walk.specs.WalkLaws.{fresh_sound, walked_few, walked_outcome}
 use Rattle.walk.proofs.walk.Goals as goal
 
-pub overflow_add-counts : goal.overflow_add-counts
-overflow_add-counts c = let h = few_atoms _ _ c.requires c.counts_of-counts.ensures in search rules
-
-pub last_set-last-requires : goal.last_set-last-requires
-last_set-last-requires c = omega (arith, few_atoms _ _ c.requires c.counts_of-counts.ensures)
-
-pub walk_from_root-requires : goal.walk_from_root-requires
-walk_from_root-requires c = given_table _ _ _ c.requires c.counts_of-counts.ensures c.last_set-last.ensures
+pub run-requires : goal.run-requires
+run-requires c = let n = c.fresh.ensures.none_counted in (fresh_sound _ _ c.fresh.ensures, search rules)
 
 pub returns : goal.returns
-returns c = let q = c.counts_of-counts.ensures.variables in (c.walk_from_root.ensures.0, omega arith)
+returns c = let f = c.fresh.ensures in let l = (layout _ c.args.table.reads).variables in let k = walked_few _ _ f _ _ c.run.ensures in
+    (walked_outcome _ _ f _ _ c.run.ensures, omega arith)

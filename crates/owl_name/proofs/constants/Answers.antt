@@ -1,7 +1,0 @@
--- All of the group.
-use mathlib.Core.Path.{◌∙◌}
-use Rattle.owl_name.proofs.NumberLaws as laws
-use Rattle.owl_name.proofs.constants.Goals as goal
-
-pub returns : goal.returns
-returns c = c.different.ensures ∙ laws.constants_count _

@@ -5,7 +5,7 @@
 ghost use Rattle.std.specs.Prelude.{◌≡◌, ◌≤◌, length, IfSome, OnOk, OnErr, Err};
 ghost use Rattle.std.specs.Io.KnownBytes.{Appends, Consumes, IsAtEnd};
 ghost use Rattle.input.specs.Part.{AppendsPart, ConsumesPart};
-ghost use Rattle.batch.specs.declared.Stop.TheVariants.{Cut, Failed};
+ghost use Rattle.batch.specs.declared.Stop.TheVariants.{End, Cut, Failed};
 ghost use Rattle.batch.specs.Question.{most, cut_line, room_of, question_of, read_reply, line_reply, solve_reply, reply};
 
 use bounds::Count;
@@ -147,10 +147,11 @@ fn cut<W: Write>(output: &mut W) -> io::Result<()>
     input::write_full(output, b"cut\n")
 }
 
-// Reads a whole table, or finds the stream cut short.
+// Reads a whole table, or finds the stream cut short; where a table is due, no stream has ended well.
 fn read_table<R: Read>(input: &mut R, table: &mut [u8]) -> Result<(), Stop>
     ensures ok { OnOk result (Consumes (R.remaining input.old) (R.remaining input.new) table.new) }
     ensures end { result ≡ Err Cut → IsAtEnd (R.remaining input.new) }
+    ensures whole { result ≡ Err End → ⊥ }
     ensures err { OnErr result (ConsumesPart (R.remaining input.old) (R.remaining input.new) table.new) }
 {
     if input::read_full(input, table)? < table.len() {

@@ -177,9 +177,10 @@ struct Asked<'a> {
 impl Asked<'_> {
     // The conjunction of the set s lies below atom j: one of its atoms does.
     #[cycle(below)]
-    fn set_below(&self, s: SetNumber, j: usize, depth: usize) -> bool
-        requires { j < self.now.rows.now.c + self.now.rows.now.e }
-        ensures { result ≡ set_asked self.now.rows.now self.now.set.now depth s j }
+    #[inline]
+    fn set_below(self, s: SetNumber, j: usize, depth: usize) -> bool
+        requires { j < self.rows.now.c + self.rows.now.e }
+        ensures { result ≡ set_asked self.entry.rows.now self.entry.set.now depth s j }
     {
         let rows = self.rows;
         if j < rows.c {
@@ -197,8 +198,9 @@ impl Asked<'_> {
     // The conjunction of the set `left` lies below every atom of the set `missing`, which has no constant. That none is missing, or a
     // constant is, both callers ask first: with these tests inside, many lines cost more.
     #[cycle(below)]
-    fn each_below(&self, left: SetNumber, missing: SetNumber, depth: usize) -> bool
-        ensures { result ≡ each_asked self.now.rows.now self.now.set.now depth left missing }
+    #[inline]
+    fn each_below(self, left: SetNumber, missing: SetNumber, depth: usize) -> bool
+        ensures { result ≡ each_asked self.entry.rows.now self.entry.set.now depth left missing }
     {
         for j in bits_of(missing) {
             if j < self.rows.c + self.rows.e && !self.set_below(left, j, depth) {
@@ -208,11 +210,13 @@ impl Asked<'_> {
         true
     }
 
-    // Filler f lies below filler g: the conjunction of f's set lies below every atom of g's.
+    // Filler f lies below filler g: the conjunction of f's set lies below every atom of g's. Of the three questions it alone is a call in the
+    // program, and `self` goes by value: where a line asks of no filler, its test makes no call and puts nothing together in memory.
     #[cycle(below)]
-    fn filler_below(&self, f: u8, g: u8, depth: usize) -> bool
+    #[inline(never)]
+    fn filler_below(self, f: u8, g: u8, depth: usize) -> bool
         requires { FillerFits f × FillerFits g }
-        ensures { result ≡ filler_asked self.now.rows.now self.now.set.now depth f g }
+        ensures { result ≡ filler_asked self.entry.rows.now self.entry.set.now depth f g }
     {
         if depth == 0 {
             return flat_below(f, g);

@@ -39,8 +39,8 @@ set_below-returns-then-j-rows t c = c.has_bit.ensures ∙ sym (constant_at _ _ _
 
 pub set_below-filler_below-requires : goal.set_below-filler_below-requires
 set_below-filler_below-requires t c =
-    let own = fills_fits _ (c.args.self.now.asking.fits c.in-Some.k (omega arith)) in
-    let asked = fills_fits _ (c.args.self.now.asking.fits (c.args.j - c.args.self.now.rows.now.c) (omega arith)) in
+    let own = fills_fits _ (c.args.self.asking.fits c.in-Some.k (omega arith)) in
+    let asked = fills_fits _ (c.args.self.asking.fits (c.args.j - c.args.self.rows.now.c) (omega arith)) in
     (omega arith, (search (own, asked), search (own, asked)))
 
 pub set_below-returns-then-filler_below : goal.set_below-returns-then-filler_below

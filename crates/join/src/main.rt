@@ -20,7 +20,7 @@ ghost use Rattle.join.specs.Part.{Prepared, Solved};
 
 use bounds::Count;
 use owl_name::Group;
-use spell::{Pen, SolvedFile, Span};
+use spell::{Pen, Sheet, SolvedFile, Span};
 use std::io;
 use std::io::{Read, Write};
 use table::Readable;
@@ -50,10 +50,10 @@ fn put_given<'a>(
     roles: &'a [Span],
     table: &'a [u8],
     output: &'a [u8],
-    pen: &mut Pen<'_>,
+    sheet: &mut Sheet<'_>,
 )
     requires { Given text.now constants.now opens.now roles.now table.now output.now }
-    ensures { Penned pen.old (named_lines (names_in text.now) (table_of table.now) (set_in output.now)) pen.new }
+    ensures { Penned sheet.old (named_lines (names_in text.now) (table_of table.now) (set_in output.now)) sheet.new }
 {
     let readable = Readable { bytes: table };
     let solved = SolvedFile {
@@ -64,13 +64,13 @@ fn put_given<'a>(
         table: readable,
         output,
     };
-    solved.put_lines(pen);
+    solved.put_lines(sheet);
 }
 
 // The lines of the named variables of a solved file.
-fn put_named(file: &[u8], table: &[u8], output: &[u8], pen: &mut Pen<'_>)
+fn put_named(file: &[u8], table: &[u8], output: &[u8], sheet: &mut Sheet<'_>)
     requires { Solved file.now table.now × (set_bytes * max_variables ≤ length output.now) }
-    ensures { Penned pen.old (named_lines (names_in file.now) (table_of table.now) (set_in output.now)) pen.new }
+    ensures { Penned sheet.old (named_lines (names_in file.now) (table_of table.now) (set_in output.now)) sheet.new }
 {
     let mut constants = [NOWHERE; bounds::MAX_CONSTANTS];
     let mut opens = [NOWHERE; bounds::MAX_VARIABLES];
@@ -85,17 +85,17 @@ fn put_named(file: &[u8], table: &[u8], output: &[u8], pen: &mut Pen<'_>)
         &roles[..r],
         table,
         output,
-        pen,
+        sheet,
     );
 }
 
 // Number, count and place.
-fn put_first(number: usize, count: usize, place: usize, pen: &mut Pen<'_>)
-    ensures { Penned pen.old (numbers_line number count place) pen.new }
+fn put_first(number: usize, count: usize, place: usize, sheet: &mut Sheet<'_>)
+    ensures { Penned sheet.old (numbers_line number count place) sheet.new }
 {
     let mut line = [0; LINE];
     let n = text::read_line(&[number, count, place], &mut line);
-    pen.put(&line[..n]);
+    sheet.put(&line[..n]);
 }
 
 // What comes of a file: the answer's number, count and place, the table that was solved, and the output.
@@ -118,21 +118,20 @@ impl Joined<'_> {
         ensures prefix_len { IsPrefixLen result buffer.new }
         ensures buffer_after { take result buffer.new ≡ window from (length buffer.old) (join_text self.now.file.now) }
     {
-        let mut pen = Pen {
+        let mut sheet = Sheet {
             buffer,
-            skip: from,
-            at: 0,
+            pen: Pen { skip: from, at: 0 },
         };
         if MOST < self.file.len() {
-            pen.put(b"The file is too long: it may have 65536 bytes at most.\n");
-            return pen.at;
+            sheet.put(b"The file is too long: it may have 65536 bytes at most.\n");
+            return sheet.pen.at;
         }
-        put_first(self.number, self.count, self.place, &mut pen);
+        put_first(self.number, self.count, self.place, &mut sheet);
         if self.number != 0 {
-            return pen.at;
+            return sheet.pen.at;
         }
-        put_named(self.file, self.table, self.output, &mut pen);
-        pen.at
+        put_named(self.file, self.table, self.output, &mut sheet);
+        sheet.pen.at
     }
 
     // Writes the text, window after window, until it ends or a write fails; returns how many bytes it has, unless it is longer than any number. A

@@ -6,24 +6,24 @@
 use Rattle.std.proofs.Common.{◌≡◌, refl, sym, ap, ◌∙◌, Bool, false, cond, List, [], ◌∷◌, ℕ, zero, suc, ◌-◌, ◌≤◌, ◌<◌, arith, length, take, drop, lt-ltb, le-ltb}
 use Rattle.std.proofs.Math.Decide.{dec_lt}
 use Rattle.owl.specs.Tree.{Name}
-use Rattle.spell.specs.declared.Pen.{Pen}
+use Rattle.spell.specs.declared.Sheet.{Sheet}
 use Rattle.spell.specs.declared.Span.{Span}
 use Rattle.spell.specs.Penned.{Penned}
 use Rattle.spell.specs.PennedLaws.{penned_none, penned_as}
 use Rattle.spell.specs.Spelling.{name_of}
 use Rattle.spell.specs.Given.{span_at, span_text, SpansOf}
 
-pub if_none : (p : Pen) (there : Bool) (t : List ℕ) → there ≡ false → Penned p (cond there t []) p
+pub if_none : (p : Sheet) (there : Bool) (t : List ℕ) → there ≡ false → Penned p (cond there t []) p
 if_none p there t e = penned_as (penned_none p) (sym (ap (λ (y : Bool). cond y t []) e))
 
 none_there : (s : List ℕ) (spans : List Span) (k : ℕ) → length spans ≤ k → span_text s spans k ≡ []
 unfolding span_text
 none_there s spans k h = rw (le-ltb k (length spans) h, span_text)
 
-pub name_none : (p : Pen) (s : List ℕ) (spans : List Span) (k : ℕ) → length spans ≤ k → Penned p (span_text s spans k) p
+pub name_none : (p : Sheet) (s : List ℕ) (spans : List Span) (k : ℕ) → length spans ≤ k → Penned p (span_text s spans k) p
 name_none p s spans k h = penned_as (penned_none p) (sym (none_there s spans k h))
 
-pub name_there : {p q : Pen} (s : List ℕ) (spans : List Span) {k : ℕ} {span : Span} → k < length spans → span ≡ span_at spans k
+pub name_there : {p q : Sheet} (s : List ℕ) (spans : List Span) {k : ℕ} {span : Span} → k < length spans → span ≡ span_at spans k
     → Penned p (take (span.to - span.from) (drop span.from s)) q → Penned p (span_text s spans k) q
 unfolding span_text
 name_there s spans {k} {span} h e x =

@@ -31,7 +31,7 @@ use Rattle.text.specs.Listing.{ampersand, atoms_in}
 use Rattle.text.proofs.Laws.{joined_more}
 use Rattle.owl.specs.Naming.{Names, thing_bytes}
 use Rattle.owl.specs.Token.{some_values_word}
-use Rattle.spell.specs.declared.Pen.{Pen}
+use Rattle.spell.specs.declared.Sheet.{Sheet}
 use Rattle.spell.specs.declared.Span.{Span}
 use Rattle.spell.specs.Penned.{Penned}
 use Rattle.spell.specs.PennedLaws.{penned_none, penned_then, penned_as}
@@ -87,7 +87,7 @@ module _ (d : Names) (t : Table) (spelt : ℕ → List ℕ) where
   code_filler (fills_variable k i l) = ap (code_text d t spelt) i
 
   -- by the kind of the code
-  module _ {kind : Kind} {p q : Pen} where
+  module _ {kind : Kind} {p q : Sheet} where
     pub filler_top : Top ≡ kind → Penned p thing q → Penned p (code_text d t spelt kind) q
     unfolding code_text thing_bytes
     filler_top i x = penned_as x (ap (code_text d t spelt) i)
@@ -101,13 +101,13 @@ module _ (d : Names) (t : Table) (spelt : ℕ → List ℕ) where
     filler_variable n i e x = penned_as x (ap (variable_text d t spelt) e ∙ ap (code_text d t spelt) i)
 
   -- a code that is no filler is written as nothing
-  pub filler_other : (p : Pen) {is kind : Kind} → ((k : ℕ) × (is ≡ Restriction k)) ⊎ (is ≡ Other) → is ≡ kind → Penned p (code_text d t spelt kind) p
+  pub filler_other : (p : Sheet) {is kind : Kind} → ((k : ℕ) × (is ≡ Restriction k)) ⊎ (is ≡ Other) → is ≡ kind → Penned p (code_text d t spelt kind) p
   unfolding code_text
   filler_other p (inl r) e = penned_as (penned_none p) (ap (code_text d t spelt) (sym r.1 ∙ e))
   filler_other p (inr o) e = penned_as (penned_none p) (ap (code_text d t spelt) (sym o ∙ e))
 
 module _ (d : Names) (s : List ℕ) (spelt : ℕ → List ℕ) where
-  pub row_text_lem : {text : List ℕ} {spans : List Span} → SpansOf text d.roles spans → {p q₁ q₂ q₃ q₄ q : Pen} (k role r b : ℕ) → role ≡ r → r ≡ (row_at (table_of s).rows k).role → IsRowFiller s k b
+  pub row_text_lem : {text : List ℕ} {spans : List Span} → SpansOf text d.roles spans → {p q₁ q₂ q₃ q₄ q : Sheet} (k role r b : ℕ) → role ≡ r → r ≡ (row_at (table_of s).rows k).role → IsRowFiller s k b
       → Penned p some_open q₁ → Penned q₁ (span_text text spans role) q₂ → Penned q₂ space q₃ → Penned q₃ (code_text d (table_of s) spelt (kind_of b)) q₄ → Penned q₄ closing q
       → Penned p (row_text d (table_of s) spelt (row_at (table_of s).rows k)) q
   unfolding row_text some_text some_values_word IsRowFiller
@@ -116,11 +116,11 @@ module _ (d : Names) (s : List ℕ) (spelt : ℕ → List ℕ) where
       (ap₂ (λ (y z : List ℕ). some_open ++ (y ++ (space ++ (z ++ closing)))) (name_is is role ∙ ap (name_of d.roles) (e ∙ g)) (code_filler d (table_of s) spelt (filler_writes (header_of s).c (header_of s).v b _ w)))
 
 module _ (d : Names) (s : List ℕ) (ok : T (is_readable (reading s))) (spelt : ℕ → List ℕ) where
-  pub atom_constant : {text : List ℕ} {spans : List Span} → SpansOf text d.constants spans → {p q : Pen} (i : ℕ) (h : Header) (c : ℕ) → h ≡ header_of s → c ≡ h.c → i < c → Penned p (span_text text spans i) q → Penned p (atom_text d (table_of s) spelt i) q
+  pub atom_constant : {text : List ℕ} {spans : List Span} → SpansOf text d.constants spans → {p q : Sheet} (i : ℕ) (h : Header) (c : ℕ) → h ≡ header_of s → c ≡ h.c → i < c → Penned p (span_text text spans i) q → Penned p (atom_text d (table_of s) spelt i) q
   unfolding atom_text
   atom_constant is i h c e g l x = penned_as x (name_is is i ∙ rw (lt-ltb i (table_of s).constants (omega (arith, (layout s ok).constants, ap (λ (x : Header). x.c) e)), atom_text))
 
-  pub atom_row : {p q : Pen} (i : ℕ) (h : Header) (c : ℕ) → h ≡ header_of s → c ≡ h.c → c ≤ i → Penned p (row_text d (table_of s) spelt (row_at (table_of s).rows (i - c))) q → Penned p (atom_text d (table_of s) spelt i) q
+  pub atom_row : {p q : Sheet} (i : ℕ) (h : Header) (c : ℕ) → h ≡ header_of s → c ≡ h.c → c ≤ i → Penned p (row_text d (table_of s) spelt (row_at (table_of s).rows (i - c))) q → Penned p (atom_text d (table_of s) spelt i) q
   unfolding atom_text
   atom_row i h c e g l x =
       penned_as x (rw (le-ltb i (table_of s).constants (omega (arith, (layout s ok).constants, ap (λ (x : Header). x.c) e)), atom_text)
@@ -150,7 +150,7 @@ enclosed_is (t ∷ []) b e = rw e (append-nil (t ++ []) ∙ append-nil t)
 enclosed_is (t ∷ u ∷ ts) b e = rw (e ∙ lt-ltb 1 (suc (suc (length ts))) (omega arith))
 
 module _ (d : Names) (t : Table) (sets : ℕ → ℕ) {text : List ℕ} {spans : List Span} (is : SpansOf text d.opens spans) where
-  pub variable_named : {p q : Pen} (n x : ℕ) → x < length spans → Penned p (span_text text spans x) q → Penned p (variable_text d t (spelt_to d t sets n) x) q
+  pub variable_named : {p q : Sheet} (n x : ℕ) → x < length spans → Penned p (span_text text spans x) q → Penned p (variable_text d t (spelt_to d t sets n) x) q
   unfolding variable_text
   variable_named n x h z =
       let m : length spans ≡ length d.opens = is.many in
@@ -161,11 +161,11 @@ module _ (d : Names) (t : Table) (sets : ℕ → ℕ) {text : List ℕ} {spans :
   unfolding variable_text
   fresh_is n x h = let m : length spans ≡ length d.opens = is.many in rw (le-ltb x (length d.opens) (omega arith), variable_text)
 
-  pub variable_flat : {p q : Pen} (n x : ℕ) → length spans ≤ x → n ≡ 0 → Penned p thing q → Penned p (variable_text d t (spelt_to d t sets n) x) q
+  pub variable_flat : {p q : Sheet} (n x : ℕ) → length spans ≤ x → n ≡ 0 → Penned p thing q → Penned p (variable_text d t (spelt_to d t sets n) x) q
   unfolding spelt_to thing_bytes
   variable_flat n x h e z = penned_as z (sym (ap (λ (k : ℕ). spelt_to d t sets k x) e) ∙ fresh_is n x h)
 
-  pub variable_deep : {p q₁ q₂ q : Pen} (n x set count many : ℕ) → length spans ≤ x → (n ≡ 0 → ⊥)
+  pub variable_deep : {p q₁ q₂ q : Sheet} (n x set count many : ℕ) → length spans ≤ x → (n ≡ 0 → ⊥)
       → set ≡ sets x → many ≡ atoms t → count ≡ length (atoms_in many set)
       → Penned p (cond (ltb 1 count) opening []) q₁ → Penned q₁ (set_text d t sets (n - 1) set) q₂ → Penned q₂ (cond (ltb 1 count) closing []) q
       → Penned p (variable_text d t (spelt_to d t sets n) x) q
@@ -215,11 +215,11 @@ module _ (d : Names) (t : Table) (spelt : ℕ → List ℕ) (s : ℕ) where
       go true = rw map-append (joined_more ampersand texts (atom_text d t spelt i), or-true (any texts) ∙ sym (any_last texts (atom_text d t spelt i)))
       go false = (append-nil (joined ampersand texts), or-false (any texts))
 
-  pub atoms_none : (p : Pen) → (false ≡ any (atom_texts d t spelt s 0)) × Penned p (joined ampersand (atom_texts d t spelt s 0)) p
+  pub atoms_none : (p : Sheet) → (false ≡ any (atom_texts d t spelt s 0)) × Penned p (joined ampersand (atom_texts d t spelt s 0)) p
   unfolding joined atoms_in any
   atoms_none p = (refl, penned_none p)
 
-  pub atoms_there : {p q₁ q₂ q : Pen} {later : Bool} (i : ℕ) → bit i s ≡ true → later ≡ any (atom_texts d t spelt s i) → Penned p (joined ampersand (atom_texts d t spelt s i)) q₁
+  pub atoms_there : {p q₁ q₂ q : Sheet} {later : Bool} (i : ℕ) → bit i s ≡ true → later ≡ any (atom_texts d t spelt s i) → Penned p (joined ampersand (atom_texts d t spelt s i)) q₁
       → Penned q₁ (cond later ampersand []) q₂ → Penned q₂ (atom_text d t spelt i) q → (true ≡ any (atom_texts d t spelt s (i + 1))) × Penned p (joined ampersand (atom_texts d t spelt s (i + 1))) q
   atoms_there {later = later} i e l x y z = (
     sym (or-true (any (atom_texts d t spelt s i))) ∙ ap (λ (b : Bool). any (atom_texts d t spelt s i) || b) (sym e) ∙ (set_more i).1,
@@ -227,7 +227,7 @@ module _ (d : Names) (t : Table) (spelt : ℕ → List ℕ) (s : ℕ) where
         (ap (λ (w : List ℕ). joined ampersand (atom_texts d t spelt s i) ++ w) (atom_there i later e) ∙ ap (λ (b : Bool). joined ampersand (atom_texts d t spelt s i) ++ atom_of d t spelt s i b) l ∙ (set_more i).0),
   )
 
-  pub atoms_out : {p q : Pen} {later : Bool} (i : ℕ) → bit i s ≡ false → later ≡ any (atom_texts d t spelt s i) → Penned p (joined ampersand (atom_texts d t spelt s i)) q
+  pub atoms_out : {p q : Sheet} {later : Bool} (i : ℕ) → bit i s ≡ false → later ≡ any (atom_texts d t spelt s i) → Penned p (joined ampersand (atom_texts d t spelt s i)) q
       → (later ≡ any (atom_texts d t spelt s (i + 1))) × Penned p (joined ampersand (atom_texts d t spelt s (i + 1))) q
   atoms_out i e l x = (
     l ∙ sym (or-false (any (atom_texts d t spelt s i))) ∙ ap (λ (b : Bool). any (atom_texts d t spelt s i) || b) (sym e) ∙ (set_more i).1,
@@ -241,7 +241,7 @@ module _ (d : Names) (t : Table) (spelt : ℕ → List ℕ) (s : ℕ) where
   all_joined (x ∷ ts) later e = rw e (append-nil (joined ampersand (x ∷ ts)))
 
 module _ (d : Names) (t : Table) (sets : ℕ → ℕ) where
-  pub set_text_lem : {p q₁ q : Pen} {i : ℕ} {later : Bool} (n s : ℕ) → i ≡ atoms t → later ≡ any (atom_texts d t (spelt_to d t sets n) s i) → Penned p (joined ampersand (atom_texts d t (spelt_to d t sets n) s i)) q₁
+  pub set_text_lem : {p q₁ q : Sheet} {i : ℕ} {later : Bool} (n s : ℕ) → i ≡ atoms t → later ≡ any (atom_texts d t (spelt_to d t sets n) s i) → Penned p (joined ampersand (atom_texts d t (spelt_to d t sets n) s i)) q₁
       → Penned q₁ (cond (not later) thing []) q → Penned p (set_text d t sets n s) q
   unfolding set_text thing_bytes
   set_text_lem {i = i} {later = later} n s e l x y =
@@ -251,7 +251,7 @@ module _ (d : Names) (t : Table) (sets : ℕ → ℕ) where
 -- Lines
 
 module _ (d : Names) (s : List ℕ) (ok : T (is_readable (reading s))) (sets : ℕ → ℕ) {text : List ℕ} {spans : List Span} (is : SpansOf text d.opens spans) where
-  pub variable_line_lem : {p q₁ q₂ q₃ q : Pen} (x set : ℕ) (h : Header) (n : ℕ) → set ≡ sets x → h ≡ header_of s → n ≡ h.v
+  pub variable_line_lem : {p q₁ q₂ q₃ q : Sheet} (x set : ℕ) (h : Header) (n : ℕ) → set ≡ sets x → h ≡ header_of s → n ≡ h.v
       → Penned p (span_text text spans x) q₁ → Penned q₁ (0x3A ∷ 0x20 ∷ []) q₂ → Penned q₂ (set_text d (table_of s) sets n set) q₃ → Penned q₃ newline q
       → Penned p (variable_line d (table_of s) sets x) q
   unfolding variable_line
@@ -262,14 +262,14 @@ module _ (d : Names) (s : List ℕ) (ok : T (is_readable (reading s))) (sets : �
       ∙ ap₂ (λ (y z : ℕ). name_of d.opens x ++ (0x3A ∷ 0x20 ∷ (set_text d (table_of s) sets y z ++ newline))) deep o)
 
 module _ (d : Names) (t : Table) (sets : ℕ → ℕ) where
-  pub lines_none : (p : Pen) → Penned p (variable_lines d t sets 0) p
+  pub lines_none : (p : Sheet) → Penned p (variable_lines d t sets 0) p
   unfolding variable_lines
   lines_none p = penned_none p
 
-  pub lines_turn : {p q₁ q : Pen} (x : ℕ) → Penned p (variable_lines d t sets x) q₁ → Penned q₁ (variable_line d t sets x) q → Penned p (variable_lines d t sets (x + 1)) q
+  pub lines_turn : {p q₁ q : Sheet} (x : ℕ) → Penned p (variable_lines d t sets x) q₁ → Penned q₁ (variable_line d t sets x) q → Penned p (variable_lines d t sets (x + 1)) q
   unfolding variable_lines
   lines_turn x h k = penned_as (penned_then h k) (sym (ap (variable_lines d t sets) (add-one x)))
 
-  pub lines_all_lem : {s : List ℕ} {spans : List Span} → SpansOf s d.opens spans → {p q : Pen} (x : ℕ) → x ≤ length spans → length spans ≤ x
+  pub lines_all_lem : {s : List ℕ} {spans : List Span} → SpansOf s d.opens spans → {p q : Sheet} (x : ℕ) → x ≤ length spans → length spans ≤ x
       → Penned p (variable_lines d t sets x) q → Penned p (variable_lines d t sets (length d.opens)) q
   lines_all_lem {s} {spans} is x h l z = let m : length spans ≡ length d.opens = is.many in penned_as z (ap (variable_lines d t sets) (let e : x ≡ length d.opens = omega arith in e))

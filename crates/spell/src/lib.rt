@@ -19,22 +19,28 @@ ghost use Rattle.spell.specs.Given.{span_text, Inside, Given};
 use bounds::SetNumber;
 use table::{Kind, Readable};
 
-// A buffer that is lent, how many bytes of the text are still to be passed over, and the first free byte of the buffer.
-#[derive(Drop)]
-pub struct Pen<'a> {
-    pub buffer: &'a mut [u8],
+// How many bytes of the text are still to be passed over, and the first free byte of the buffer.
+#[derive(Clone, Copy)]
+pub struct Pen {
     pub skip: usize,
     pub at: usize,
 }
 
-impl Pen<'_> {
+// A buffer that is lent, and where the pen stands in it.
+#[derive(Drop)]
+pub struct Sheet<'a> {
+    pub buffer: &'a mut [u8],
+    pub pen: Pen,
+}
+
+impl Sheet<'_> {
     // A text, through the window.
     pub fn put(&mut self, text: &[u8])
         ensures { Penned self.old text.now self.new }
     {
-        let passed = self.skip.min(text.len());
-        self.at = text::put_text(&text[passed..], self.buffer, self.at);
-        self.skip -= passed;
+        let passed = self.pen.skip.min(text.len());
+        self.pen.at = text::put_text(&text[passed..], self.buffer, self.pen.at);
+        self.pen.skip -= passed;
     }
 
     // A text, or none.
@@ -48,9 +54,9 @@ impl Pen<'_> {
 
     // Is no room left?
     fn is_full(&self) -> bool
-        ensures { IsTrue result ↔ length self.now.buffer.now ≤ self.now.at }
+        ensures { IsTrue result ↔ length self.now.buffer.now ≤ self.now.pen.at }
     {
-        self.buffer.len() <= self.at
+        self.buffer.len() <= self.pen.at
     }
 }
 
@@ -86,12 +92,12 @@ impl SolvedFile<'_> {
     ghost use Rattle.spell.specs.Step.{file_names, file_table, spelt_out, code_text, FillerFits};
 
     // Name k of those whose places are given.
-    fn put_name(&self, spans: &[Span], k: usize, pen: &mut Pen<'_>)
+    fn put_name(&self, spans: &[Span], k: usize, sheet: &mut Sheet<'_>)
         requires { Inside self.now.text.now spans.now }
-        ensures { Penned pen.old (span_text self.now.text.now spans.now k) pen.new }
+        ensures { Penned sheet.old (span_text self.now.text.now spans.now k) sheet.new }
     {
         if let Some(span) = spans.get(k) {
-            pen.put(&self.text[span.from..span.to]);
+            sheet.put(&self.text[span.from..span.to]);
         }
     }
 
@@ -105,101 +111,101 @@ impl SolvedFile<'_> {
 
     // A set: its atoms in rising number.
     #[cycle(put_set)]
-    fn put_set(&self, set: SetNumber, depth: usize, pen: &mut Pen<'_>)
-        ensures { Penned pen.old (set_text (file_names self.now) (file_table self.now) (set_in self.now.output.now) depth set) pen.new }
+    fn put_set(&self, set: SetNumber, depth: usize, sheet: &mut Sheet<'_>)
+        ensures { Penned sheet.old (set_text (file_names self.now) (file_table self.now) (set_in self.now.output.now) depth set) sheet.new }
     {
         let mut later = false;
         for i in 0..self.atoms() {
             if bounds::has_bit(set, i) {
-                pen.put_if(later, b" & ");
-                self.put_atom(i, depth, pen);
+                sheet.put_if(later, b" & ");
+                self.put_atom(i, depth, sheet);
                 later = true;
             }
         }
-        pen.put_if(!later, b"owl:Thing");
+        sheet.put_if(!later, b"owl:Thing");
     }
 
     // Atom i, as long as there is room.
     #[cycle(put_set)]
-    fn put_atom(&self, i: usize, depth: usize, pen: &mut Pen<'_>)
+    fn put_atom(&self, i: usize, depth: usize, sheet: &mut Sheet<'_>)
         requires { i < (header_of self.now.table.bytes.now).c + (header_of self.now.table.bytes.now).e }
-        ensures { Penned pen.old (atom_text (file_names self.now) (file_table self.now) (spelt_out self.now depth) i) pen.new }
+        ensures { Penned sheet.old (atom_text (file_names self.now) (file_table self.now) (spelt_out self.now depth) i) sheet.new }
     {
-        if pen.is_full() {
+        if sheet.is_full() {
             return;
         }
         let constants = usize::from(self.table.header().c);
         if i < constants {
-            self.put_name(self.constants, i, pen);
+            self.put_name(self.constants, i, sheet);
         } else {
-            self.put_row(i - constants, depth, pen);
+            self.put_row(i - constants, depth, sheet);
         }
     }
 
     // Restriction k: its role and its filler.
     #[cycle(put_set)]
-    fn put_row(&self, k: usize, depth: usize, pen: &mut Pen<'_>)
+    fn put_row(&self, k: usize, depth: usize, sheet: &mut Sheet<'_>)
         requires { k < (header_of self.now.table.bytes.now).e }
-        ensures { Penned pen.old (row_text (file_names self.now) (file_table self.now) (spelt_out self.now depth) (row_at (file_table self.now).rows k)) pen.new }
+        ensures { Penned sheet.old (row_text (file_names self.now) (file_table self.now) (spelt_out self.now depth) (row_at (file_table self.now).rows k)) sheet.new }
     {
-        pen.put(b"ObjectSomeValuesFrom(");
-        self.put_name(self.roles, usize::from(self.table.role_of(k)), pen);
-        pen.put(b" ");
-        self.put_filler(self.table.filler_of(k), depth, pen);
-        pen.put(b")");
+        sheet.put(b"ObjectSomeValuesFrom(");
+        self.put_name(self.roles, usize::from(self.table.role_of(k)), sheet);
+        sheet.put(b" ");
+        self.put_filler(self.table.filler_of(k), depth, sheet);
+        sheet.put(b")");
     }
 
     // A filler, by its code.
     #[cycle(put_set)]
-    fn put_filler(&self, code: u8, depth: usize, pen: &mut Pen<'_>)
+    fn put_filler(&self, code: u8, depth: usize, sheet: &mut Sheet<'_>)
         requires { FillerFits self.now.table.bytes.now code }
-        ensures { Penned pen.old (code_text (file_names self.now) (file_table self.now) (spelt_out self.now depth) (kind_of code)) pen.new }
+        ensures { Penned sheet.old (code_text (file_names self.now) (file_table self.now) (spelt_out self.now depth) (kind_of code)) sheet.new }
     {
         match table::kind_of(code) {
-            Kind::Top => pen.put(b"owl:Thing"),
-            Kind::Constant(k) => self.put_name(self.constants, usize::from(k), pen),
-            Kind::Variable(x) => self.put_variable(usize::from(x), depth, pen),
+            Kind::Top => sheet.put(b"owl:Thing"),
+            Kind::Constant(k) => self.put_name(self.constants, usize::from(k), sheet),
+            Kind::Variable(x) => self.put_variable(usize::from(x), depth, sheet),
             Kind::Restriction(_) | Kind::Other => {}
         }
     }
 
     // Variable x as a filler: its name, or its own atoms, in parentheses where there are several.
     #[cycle(put_set)]
-    fn put_variable(&self, x: usize, depth: usize, pen: &mut Pen<'_>)
+    fn put_variable(&self, x: usize, depth: usize, sheet: &mut Sheet<'_>)
         requires { x < (header_of self.now.table.bytes.now).v }
-        ensures { Penned pen.old (variable_text (file_names self.now) (file_table self.now) (spelt_out self.now depth) x) pen.new }
+        ensures { Penned sheet.old (variable_text (file_names self.now) (file_table self.now) (spelt_out self.now depth) x) sheet.new }
     {
         if x < self.opens.len() {
-            self.put_name(self.opens, x, pen);
+            self.put_name(self.opens, x, sheet);
         } else if depth == 0 {
-            pen.put(b"owl:Thing");
+            sheet.put(b"owl:Thing");
         } else {
             let set = output::set_in(self.output, x);
             let several = 1 < count_in(set, self.atoms());
-            pen.put_if(several, b"(");
-            self.put_set(set, depth - 1, pen);
-            pen.put_if(several, b")");
+            sheet.put_if(several, b"(");
+            self.put_set(set, depth - 1, sheet);
+            sheet.put_if(several, b")");
         }
     }
 
     // The line of variable x: its name and its atoms.
-    fn put_line(&self, x: usize, pen: &mut Pen<'_>)
+    fn put_line(&self, x: usize, sheet: &mut Sheet<'_>)
         requires { x < (header_of self.now.table.bytes.now).v }
-        ensures { Penned pen.old (variable_line (file_names self.now) (file_table self.now) (set_in self.now.output.now) x) pen.new }
+        ensures { Penned sheet.old (variable_line (file_names self.now) (file_table self.now) (set_in self.now.output.now) x) sheet.new }
     {
         let depth = usize::from(self.table.header().v);
-        self.put_name(self.opens, x, pen);
-        pen.put(b": ");
-        self.put_set(output::set_in(self.output, x), depth, pen);
-        pen.put(b"\n");
+        self.put_name(self.opens, x, sheet);
+        sheet.put(b": ");
+        self.put_set(output::set_in(self.output, x), depth, sheet);
+        sheet.put(b"\n");
     }
 
     // The lines of all named variables.
-    pub fn put_lines(&self, pen: &mut Pen<'_>)
-        ensures { Penned pen.old (named_lines (names_in self.now.text.now) (table_of self.now.table.bytes.now) (set_in self.now.output.now)) pen.new }
+    pub fn put_lines(&self, sheet: &mut Sheet<'_>)
+        ensures { Penned sheet.old (named_lines (names_in self.now.text.now) (table_of self.now.table.bytes.now) (set_in self.now.output.now)) sheet.new }
     {
         for x in 0..self.opens.len() {
-            self.put_line(x, pen);
+            self.put_line(x, sheet);
         }
     }
 }

@@ -46,8 +46,8 @@ put_set-loop-i-init t c = atoms_none _ _ _ _ _
 pub put_set-loop-i-preserved : goal.put_set-loop-i-preserved
 put_set-loop-i-preserved t c = (let l = c.loop-i in
     elim c.if-has_bit.branch [
-      | put_set-then-has_bit w ↦ rw (w.pen-is, w.later-is) (atoms_there _ _ _ _ l.i (sym c.has_bit.ensures ∙ w.if-has_bit.true) l.invariant.0 l.invariant.1 w.put_if.ensures w.put_atom.ensures)
-      | put_set-else-has_bit w ↦ rw (w.pen-is, w.later-is) (atoms_out _ _ _ _ l.i (sym c.has_bit.ensures ∙ w.if-has_bit.false) l.invariant.0 l.invariant.1)
+      | put_set-then-has_bit w ↦ rw (w.sheet-is, w.later-is) (atoms_there _ _ _ _ l.i (sym c.has_bit.ensures ∙ w.if-has_bit.true) l.invariant.0 l.invariant.1 w.put_if.ensures w.put_atom.ensures)
+      | put_set-else-has_bit w ↦ rw (w.sheet-is, w.later-is) (atoms_out _ _ _ _ l.i (sym c.has_bit.ensures ∙ w.if-has_bit.false) l.invariant.0 l.invariant.1)
     ])
 
 pub put_set-returns : goal.put_set-returns

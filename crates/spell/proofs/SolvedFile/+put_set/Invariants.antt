@@ -26,4 +26,4 @@ decreases-put_variable l = 5 * l.depth
 abbrev pub invariant-put_set-loop-i : goal.invariant-put_set-loop-i
 invariant-put_set-loop-i l =
     (l.later ≡ any (atom_texts (file_names l.self) (file_table l.self) (spelt_out l.self l.depth) l.set l.i))
-    × Penned l.fn.pen (joined ampersand (atom_texts (file_names l.self) (file_table l.self) (spelt_out l.self l.depth) l.set l.i)) l.pen
+    × Penned l.fn.sheet (joined ampersand (atom_texts (file_names l.self) (file_table l.self) (spelt_out l.self l.depth) l.set l.i)) l.sheet

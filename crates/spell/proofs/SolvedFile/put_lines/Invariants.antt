@@ -7,4 +7,4 @@ use Rattle.spell.specs.Spelling.{variable_lines}
 use Rattle.spell.proofs.SolvedFile.put_lines.Given as goal
 
 abbrev pub invariant-loop-x : goal.invariant-loop-x
-invariant-loop-x l = Penned l.fn.pen (variable_lines (names_in l.self.text.now) (table_of l.self.table.bytes.now) (set_in l.self.output.now) l.x) l.pen
+invariant-loop-x l = Penned l.fn.sheet (variable_lines (names_in l.self.text.now) (table_of l.self.table.bytes.now) (set_in l.self.output.now) l.x) l.sheet

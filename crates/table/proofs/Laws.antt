@@ -11,7 +11,7 @@
 --   pair_..                      == answers of the functions that read two
 --   version_.., role_count_.., end_by, header_.., line_.., body_.., check_.. == answers of the function so named
 --   refused_said                 == the verdict on a table that is refused
-use mathlib.Core.Path.{◌≡◌, refl, sym, ap, ap₂, subst, ◌∙◌}
+use mathlib.Core.Path.{◌≡◌, refl, sym, ap, ap₂, ◌∙◌}
 use mathlib.Core.Bool.{Bool, true, false, ◌&&◌, ◌||◌, cond, and-true, and-false}
 use mathlib.Core.List.{List, ◌∷◌}
 use mathlib.Core.Option.{Option, none, some}
@@ -29,7 +29,7 @@ use Rattle.table.specs.declared.Kind.{Kind}
 use Rattle.table.specs.declared.Header.{Header}
 use Rattle.std.specs.Prelude.{Ok, Err, Result, T}
 use Rattle.table.specs.Code.{kind_of, within, filler_of_kind, filler_of, entry_of_kind, entry_of}
-use Rattle.table.specs.Reading.{Read, refused, got, refuse_if, and_then, or_refused, missing, read_many, read_pair, byte_at, read_code, version_place, header_length, role_rows_place, has_role_rows, header_end, role_count, header_of, marked, version_known, read_counts, then_there, read_header, read_role_rows, read_rows, read_entry, read_entries, then_right, read_line, read_lines, then_end, then_lines, then_rows, read_body, whole, from_header, Reading, refusal, reading, is_readable}
+use Rattle.table.specs.Reading.{Read, refused, got, refuse_if, and_then, or_refused, missing, read_many, read_pair, byte_at, read_code, version_place, header_length, role_rows_place, has_role_rows, header_end, role_count, header_of, marked, version_known, read_counts, then_there, read_header, read_role_rows, read_rows, read_entry, read_entries, then_right, read_line, read_lines, then_end, then_lines, then_rows, read_body, whole, from_header, refusal, reading, is_readable}
 use Rattle.table.specs.Step.{is_some, step_of, step_code, on_from, steps, verdict_of}
 use Rattle.table.specs.ManyLaws.{if_passed, if_refused}
 use Rattle.table.specs.ReadLaws.{pair_stop, pair_next, line_opened, header_counts, header_read, header_long}

@@ -7,7 +7,7 @@
 --   line_tested   == one that has fails so exactly if it does not hold
 --   node_layout, node_few, node_counts == the table of a node, and how many variables, atoms, restrictions and lines there are
 --   prepared_counts == what is prepared has the counts of the table
---   node_fills, node_filled, node_depends == what dependences are read from
+--   node_fills, node_filled, node_depends, made_depends, made_fillers == what dependences are read from
 --   node_length, node_acyclic, node_settled == how many sets a node has, and what is asked of its dependences
 --   node_begins, node_line == where a line begins, and what the test of a line is given
 --   first_found, first_none == the first line that fails, and where none does
@@ -157,6 +157,13 @@ module _ {s : List ℕ} (readable : T (is_readable (reading s))) where
   module _ {p : Prepared} (made : Prepares s p) where
     abbrev counts : CountsOf s p
     counts = prepared_counts made
+
+    -- what the dependences of a node are read from, and what `Fillers` is made from
+    pub made_depends : DependsGiven p.fill p.rows.c p.rows.e p.rows.v
+    made_depends = node_depends counts made.fill_room p.rows.v (omega arith)
+
+    pub made_fillers : (p.rows.c + p.rows.e ≤ max_atoms) × (p.rows.e ≤ max_restrictions)
+    made_fillers = (made_depends.few_atoms, let room : p.rows.e ≤ length p.fill = made_depends.room in let r : length p.fill ≡ max_restrictions = made.fill_room in omega arith)
 
     -- the masks of what is prepared, as `Fillers` has them
     pub node_filled : {masks : List ℕ} {constants : ℕ} → masks ≡ take p.rows.e p.fill → constants ≡ p.rows.c → Fills (table_of s) constants (length masks) masks

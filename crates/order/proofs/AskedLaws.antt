@@ -1,8 +1,9 @@
 -- The questions as they are asked, and that over a table's rows they are the rule.
 --
+--   constants_missing           == a missing constant decides
 --   none_found, constant_found, others_found == none is missing; a missing constant decides; else each that is missing is asked
 --   constant_at, rows_at        == a conjunction below a constant, and below a restriction, as it is asked
---   each_holds, each_fails       == a conjunction below every atom of a set, as it is asked
+--   each_holds, each_fails, each_none == a conjunction below every atom of a set, as it is asked
 --   filler_flat, filler_sets    == a filler below a filler, as it is asked
 --   set_asked_lem, each_asked_lem, filler_asked_lem == over the rows of a table the three questions answer the rule
 use mathlib.Core.Path.{◌≡◌, refl, sym, ap, ap₂, subst, ◌∙◌}
@@ -47,7 +48,7 @@ module _ (p : Rows) (a : Assignment) where
     rows_at h = rw (le-ltb j p.c h, set_ask)
 
   -- a constant is asked by its bit alone: one that is missing decides
-  constants_missing : (fb : ℕ → ℕ → Bool) (L R : ℕ) → any_below p.c (λ j. bit j (missing L R)) ≡ true → each_ask p a fb L (missing L R) ≡ false
+  pub constants_missing : (fb : ℕ → ℕ → Bool) (L R : ℕ) → any_below p.c (λ j. bit j (missing L R)) ≡ true → each_ask p a fb L (missing L R) ≡ false
   unfolding each_ask any_in
   constants_missing fb L R t =
       let r = any_below_found p.c (λ j. bit j (missing L R)) (true_is (any_below p.c (λ j. bit j (missing L R))) t) in
@@ -70,7 +71,7 @@ module _ (p : Rows) (a : Assignment) where
     unfolding each_ask
     each_fails h = sym (ap not h)
 
-    each_none : M ≡ 0 → true ≡ each_ask p a fb L M
+    pub each_none : M ≡ 0 → true ≡ each_ask p a fb L M
     each_none z = each_holds (in_none M (p.c + p.e) (λ j. not (set_ask p a fb L j)) z)
 
   -- what the missing atoms decide, as the machine finds them: none is missing, a constant is, or each is asked

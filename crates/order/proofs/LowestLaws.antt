@@ -1,10 +1,11 @@
 -- The bits of a mask, lowest first.
 --
 --   low_bits     == the rest modulo 2 ^ c says whether one of the first c bits is set
---   next_found   == the lowest bit, as the machine finds it
+--   lowest_found, next_found == the lowest bit, as the machine finds it
 --   missing_found == the atoms that one set has and another has not, as the machine finds them
 --   less_ones    == a mask without its lowest bit has fewer
 --   in_hit, in_next, in_beyond, in_none == some bit below n passes a test: the lowest; or another, where that fails or is beyond n; none where there is no bit
+--   in_past      == none below n passes, where the lowest bit is beyond n
 --   in_same      == the same of equal masks
 use mathlib.Core.Path.{◌≡◌, refl, sym, ap, ap₂, subst, ◌∙◌}
 use mathlib.Core.Bool.{Bool, true, false, ◌&&◌, ◌||◌, not, and-true, and-false, or-true, or-false}
@@ -66,7 +67,7 @@ found_off (suc w) m i h = go (m % 2) refl i h (found_off w (m / 2))
     go zero e (suc i) l rest = bit_next i m ∙ rest i (omega arith)
     go (suc d) e i l rest = absurd (let z : ⊥ = omega arith in z)
 
-lowest_found : (m : ℕ) → m < set_numbers → (m ≡ 0 → ⊥) → Lowest m (count_trailing_zeros set_bits m)
+pub lowest_found : (m : ℕ) → m < set_numbers → (m ≡ 0 → ⊥) → Lowest m (count_trailing_zeros set_bits m)
 lowest_found m h f = let on = found_on set_bits m h f in record { on = on.0; off = found_off set_bits m; small = on.1 }
 
 module _ (m k : ℕ) (low : Lowest m k) where
@@ -96,6 +97,10 @@ module _ (m k : ℕ) (low : Lowest m k) where
           let fails : q i ≡ false = ap q z ∙ e (omega arith) in
           ap (λ b. bit i m && b) fails ∙ and-false (bit i m) ∙ sym (ap (λ b. (bit i m && not (eqb i k)) && b) fails ∙ and-false (bit i m && not (eqb i k)))
       go i h (no z) = ap (λ b. b && q i) (sym (ap (λ b. bit i m && not b) (ne_eqb i k z) ∙ and-true (bit i m)))
+
+  pub in_past : (n : ℕ) (q : ℕ → Bool) → n ≤ k → any_in m n q ≡ false
+  unfolding any_in
+  in_past n q h = any_below_none n (λ i. bit i m && q i) (λ i l. ap (λ b. b && q i) (low.off i (omega arith)))
 
 pub in_same : (m r n : ℕ) (q : ℕ → Bool) → m ≡ r → any_in m n q ≡ any_in r n q
 in_same m r n q e = ap (λ (x : ℕ). any_in x n q) e

@@ -1,7 +1,7 @@
 -- The loops that prepare the rows.
 --
 --   role_low, lies_by == the role of a row has a mask, and what it says
---   over_start, over_hit, over_miss == the rows whose roles lie under row j's, one more at a time
+--   over_start, over_hit, over_miss, over_whole == the rows whose roles lie under row j's, one more at a time
 --   rows_start, rows_step, rows_whole           == row by row
 use mathlib.Core.Path.{◌≡◌, sym, ap, ap₂, subst, ◌∙◌}
 use mathlib.Core.Bool.{Bool, true, false, ◌&&◌, ◌||◌, and-true, and-false, or-false}
@@ -66,6 +66,9 @@ module _ (s : List ℕ) (j : ℕ) where
 
   pub over_miss : (n m : ℕ) → role_order (table_of s) (role n) (role j) ≡ false → Over s j n m → Over s j (n + 1) m
   over_miss n m e = over_next n m m false e (λ k. sym (ap (λ u. bit k m || u) (and-false (eqb k n)) ∙ or-false (bit k m)))
+
+  pub over_whole : (e n m : ℕ) → e ≤ n → n ≤ e → Over s j n m → Over s j e m
+  over_whole e n m h l f = subst (λ (i : ℕ). Over s j i m) (let q : n ≡ e = omega arith in q) f
 
 over_at : (s : List ℕ) (j n m : ℕ) → Over s j n m → (k : ℕ) → k < n → bit k m ≡ role_order (table_of s) (row_at (table_of s).rows k).role (row_at (table_of s).rows j).role
 unfolding Over

@@ -10,7 +10,8 @@
 --   code_short, code_stop, code_next, code_is == the step over one code, and that it is how the code is read
 --   pair_..                      == answers of the functions that read two
 --   version_.., role_count_.., end_by, header_.., line_.., body_.., check_.. == answers of the function so named
-use mathlib.Core.Path.{◌≡◌, refl, sym, ap, ap₂, subst, ◌∙◌}
+--   refused_said                 == the verdict on a table that is refused
+use mathlib.Core.Path.{◌≡◌, refl, sym, ap, ap₂, ◌∙◌}
 use mathlib.Core.Bool.{Bool, true, false, ◌&&◌, ◌||◌, cond, and-true, and-false}
 use mathlib.Core.List.{List, ◌∷◌}
 use mathlib.Core.Option.{Option, none, some}
@@ -28,10 +29,11 @@ use Rattle.table.specs.declared.Kind.{Kind}
 use Rattle.table.specs.declared.Header.{Header}
 use Rattle.std.specs.Prelude.{Ok, Err, Result, T}
 use Rattle.table.specs.Code.{kind_of, within, filler_of_kind, filler_of, entry_of_kind, entry_of}
-use Rattle.table.specs.Reading.{Read, refused, got, refuse_if, and_then, or_refused, missing, read_many, read_pair, byte_at, read_code, version_place, header_length, role_rows_place, has_role_rows, header_end, role_count, header_of, marked, version_known, read_counts, then_there, read_header, read_role_rows, read_rows, read_entry, read_entries, then_right, read_line, read_lines, then_end, then_lines, then_rows, read_body, whole, from_header, Reading, refusal, reading, is_readable}
-use Rattle.table.specs.Step.{is_some, step_of, step_code, on_from, steps}
+use Rattle.table.specs.Reading.{Read, refused, got, refuse_if, and_then, or_refused, missing, read_many, read_pair, byte_at, read_code, version_place, header_length, role_rows_place, has_role_rows, header_end, role_count, header_of, marked, version_known, read_counts, then_there, read_header, read_role_rows, read_rows, read_entry, read_entries, then_right, read_line, read_lines, then_end, then_lines, then_rows, read_body, whole, from_header, refusal, reading, is_readable}
+use Rattle.table.specs.Step.{is_some, step_of, step_code, on_from, steps, verdict_of}
 use Rattle.table.specs.ManyLaws.{if_passed, if_refused}
 use Rattle.table.specs.ReadLaws.{pair_stop, pair_next, line_opened, header_counts, header_read, header_long}
+use Rattle.table.specs.LayoutLaws.{readable_is}
 
 ------------------------------------------------------------------ codes
 
@@ -242,6 +244,10 @@ module _ (s : List ℕ) (h : Header) (role_rows : ℕ) (same_role_rows : role_ro
 
 ------------------------------------------------------------------ the whole
 
+pub refused_said : (s : List ℕ) (why : Answer) → reading s ≡ refusal why → Err why ≡ verdict_of (reading s)
+unfolding verdict_of
+refused_said s why e = ap verdict_of (sym e)
+
 module _ (s : List ℕ) where
   pub check_header : (why : Answer) → step_of (read_header bounds s) ≡ Err why → reading s ≡ refusal why
   unfolding reading
@@ -266,5 +272,9 @@ module _ (s : List ℕ) where
       pub check_body : (why : Answer) → step_of (read_body bounds s k) ≡ Err why → reading s ≡ refusal why
       check_body why q = check_then k same _ (step_refused (read_body bounds s k) why q)
 
+      pub check_said : (end : ℕ) → step_of (read_body bounds s k) ≡ Ok end → verdict_of (reading s) ≡ Ok tt
+      unfolding verdict_of
+      check_said end q = ap verdict_of (check_then k same _ (step_got (read_body bounds s k) end q).1)
+
       pub check_all : (end : ℕ) → step_of (read_body bounds s k) ≡ Ok end → T (is_readable (reading s))
-      check_all end q = subst (λ (r : Reading). T (is_readable r)) (sym (check_then k same _ (step_got (read_body bounds s k) end q).1)) tt
+      check_all end q = readable_is s (check_said end q)

@@ -6,6 +6,7 @@
 --   step_code s allows at == the step over one byte, where the test `allows` it
 --   on_from r f          == what `f` makes of the place that r answers; or the refusal r
 --   verdict_of r         == the verdict on a whole table: nothing more to say, or the refusal
+--   verdict_in x         == the verdict that an answer gives, whatever comes with it
 use Rattle.std.specs.Prelude.{Bool, true, false, cond, List, ℕ, zero, suc, ◌+◌, length, Result, Ok, Err}
 use Rattle.std.proofs.Math.Option.{Option, none, some}
 use Rattle.answer.specs.declared.Answer.{Answer}
@@ -35,3 +36,7 @@ steps step (suc k) at = on_from (step at) (steps step k)
 unfoldable pub verdict_of : Reading → Result (Unit {0}) Answer
 verdict_of (refusal why) = Err why
 verdict_of (readable h t) = Ok tt
+
+abbrev pub verdict_in : {A : Type 0} → Result A Answer → Result (Unit {0}) Answer
+verdict_in (Ok a) = Ok tt
+verdict_in (Err why) = Err why

@@ -12,7 +12,7 @@ ghost use Rattle.bounds.specs.Bounds.{bounds};
 ghost use Rattle.table.specs.Reading.{header_length, has_role_rows, header_end, role_count, rows_at, marked, version_known, header_of, read_counts, read_header, read_role, read_filler, read_entry, read_role_row, read_role_rows, read_row, read_rows, read_entries, read_line, read_lines, read_body, refusal, reading, table_of, is_readable};
 ghost use Rattle.answer.specs.declared.Answer.{Answer};
 ghost use Rattle.answer.specs.declared.Answer.TheVariants.{OverBound};
-ghost use Rattle.table.specs.Step.{is_some, step_of, step_code, steps};
+ghost use Rattle.table.specs.Step.{is_some, step_of, step_code, steps, verdict_of, verdict_in};
 ghost use Rattle.el.specs.Table.{constant, row_at};
 ghost use Rattle.table.specs.Layout.{role_row_at, line_start, IsRowFiller, IsEntryCode, LineBegins, AtLine};
 
@@ -342,6 +342,7 @@ impl Body<'_> {
 pub fn check(table: &[u8]) -> Result<Readable<'_>, Answer>
     ensures ok { IfOk result (λ t. t.bytes.now ≡ table.now) }
     ensures err { IfErr result (λ why. reading table.now ≡ refusal why) }
+    ensures verdict { verdict_in result ≡ verdict_of (reading table.now) }
 {
     read_header(table)?;
     let body = Body {

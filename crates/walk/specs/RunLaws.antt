@@ -2,7 +2,8 @@
 --
 --   ran_none, ran_on, runs_ended, runs_whole == a run of no node, of some after others, one that ended, and a whole one
 --   runs_one, runs_more == a run by where its first node leads
---   running_start, running_first == the loop of a run begins: no node is looked at yet, or the first is
+--   running_start      == a run of which no node is looked at yet
+--   running_first      == the loop of a run begins: the first node is looked at
 --   running_fits, running_on, running_spent, running_ended, running_done == its turns and ends
 --   runs_stays, runs_going == a run by its state
 --   runs_twice         == A RUN AFTER A RUN IS ONE RUN

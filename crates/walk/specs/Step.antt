@@ -22,14 +22,15 @@
 --   Running t first counted end to == a run from the first node, up to the state `to`: so far it went along nodes none of which ends the walk, but where it has ended
 --   CanCount count share == so many nodes more can be counted
 --   Fresh state      == the state at the root
+--   Counted s c e v m last == s is a readable table with c constants, e restrictions, v variables and m lines, and `last` is its last set number
 --   Given s p last   == p is what is prepared of the table s, and `last` is its last set number
 --   outcome_of state == the outcome that the walk's last state says; `outcome_as`, by where it is going
-use Rattle.std.specs.Prelude.{◌≡◌, Bool, true, false, List, [], ℕ, ◌+◌, ◌^◌, ◌≤◌, ◌<◌, get_or, take}
+use Rattle.std.specs.Prelude.{◌≡◌, Bool, true, false, List, [], ℕ, ◌+◌, ◌^◌, ◌≤◌, ◌<◌, T, get_or, take}
 use Rattle.bounds.specs.Bounds as bounds
 use Rattle.el.specs.Table.{Table, atoms, role_order}
 use Rattle.el.specs.Walk.{Node, dead, ends, Outcome, solved, nothing, budget}
 use Rattle.el.specs.Along.{remaining, afterwards, Moves}
-use Rattle.table.specs.Reading.{table_of}
+use Rattle.table.specs.Reading.{reading, is_readable, table_of, header_of}
 use Rattle.node.specs.declared.Sets.{Sets}
 use Rattle.node.specs.declared.Prepared.{Prepared}
 use Rattle.node.specs.Node.{node_of, Prepares}
@@ -145,6 +146,15 @@ pub record Fresh (state : State) : Type 0 where
   pub none_chosen : state.sets.chosen ≡ 0
   pub empty : (x : ℕ) → get_or state.sets.set x 0 ≡ 0
   pub none_counted : state.count ≡ 0
+
+pub record Counted (s : List ℕ) (c e v m last : ℕ) : Type 0 where
+  pub readable : T (is_readable (reading s))
+  pub constants : c ≡ (header_of s).c
+  pub restrictions : e ≡ (header_of s).e
+  pub variables : v ≡ (header_of s).v
+  pub lines : m ≡ (header_of s).m
+  pub width : 2 ^ atoms (table_of s) ≡ last + 1
+  pub narrow : last < 2 ^ bounds.max_atoms
 
 pub record Given (s : List ℕ) (p : Prepared) (last : ℕ) : Type 0 where
   pub prepares : Prepares s p

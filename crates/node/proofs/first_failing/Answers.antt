@@ -1,11 +1,11 @@
 -- `node::first_failing` meets its contract.
 use Rattle.std.proofs.Common.{ap, ◌∙◌, arith, rules, not}
-use Rattle.node.specs.DeadLaws.{node_few, prepared_counts, node_counts, node_length, node_settled, node_begins, node_line, fails_start, fails_next, line_open, line_tested, first_found, first_none}
+use Rattle.node.specs.DeadLaws.{node_few, prepared_counts, node_counts, made_fillers, node_length, node_settled, node_begins, node_line, fails_start, fails_next, line_open, line_tested, first_found, first_none}
 use Rattle.node.proofs.first_failing.Goals as goal
 use Rattle.node.proofs.first_failing.Goals.{else-own-settled-via-then-own-settled+else-not-line_holds, else-own-settled-via-else-own-settled}
 
 pub fillers-requires : goal.fillers-requires
-fillers-requires c = let q = node_counts c.args.table.reads (prepared_counts c.requires.1) in (q.0, q.1)
+fillers-requires c = made_fillers c.args.table.reads c.requires.1
 
 pub node-requires : goal.node-requires
 node-requires c = (node_few c.args.table.reads c.requires.0).0

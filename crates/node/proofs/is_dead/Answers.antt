@@ -1,20 +1,19 @@
 -- `node::is_dead` meets its contract: the cycle test, and else the first line that fails.
 use Rattle.std.proofs.Common.{sym, ap, ◌∙◌, not, arith}
 use Rattle.el.specs.TestLaws.{true_is}
-use Rattle.table.specs.LayoutLaws.{layout}
-use Rattle.node.specs.DeadLaws.{node_few, prepared_counts, node_counts, node_length, node_acyclic, dead_cycle, dead_first}
+use Rattle.node.specs.DeadLaws.{node_few, prepared_counts, made_depends, made_fillers, node_length, node_acyclic, dead_cycle, dead_first}
 use Rattle.node.proofs.is_dead.Goals as goal
 
 pub fillers-requires : goal.fillers-requires
-fillers-requires c = let q = node_counts c.args.table.reads (prepared_counts c.requires.1) in (q.0, q.1)
+fillers-requires c = made_fillers c.args.table.reads c.requires.1
 
 pub node-requires : goal.node-requires
 node-requires c = (node_few c.args.table.reads c.requires.0).0
 
 pub is_acyclic-requires : goal.is_acyclic-requires
 is_acyclic-requires c = let p = c.requires in
-    let v = p.1.rows.variables in let h = p.0.chosen in let f = (layout _ c.args.table.reads).few_variables in let l = node_length c.args.table.reads p.1 p.0 in
-    (omega arith, rw c.node.ensures (omega arith))
+    let v = p.1.rows.variables in let h = p.0.chosen in let d = made_depends c.args.table.reads p.1 in let l = node_length c.args.table.reads p.1 p.0 in
+    (d.few_variables, rw c.node.ensures (omega arith))
 
 pub returns-then-not-is_acyclic : goal.returns-then-not-is_acyclic
 returns-then-not-is_acyclic c = let p = c.requires in let f = c.fillers.ensures in

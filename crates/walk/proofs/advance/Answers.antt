@@ -2,7 +2,7 @@
 use Rattle.std.proofs.Common.{◌≡◌, ◌≤◌, ℕ, refl, subst, sym, ap₂, arith, rules, length}
 use Rattle.bounds.specs.Bounds.{max_variables}
 use Rattle.el.specs.Table.{Table}
-use Rattle.node.specs.DeadLaws.{prepared_counts, node_counts}
+use Rattle.node.specs.DeadLaws.{made_fillers}
 use Rattle.level.specs.Sweep.{sets_of, sibling_of}
 use Rattle.walk.specs.declared.Going.{Going}
 use Rattle.walk.specs.declared.State.{State}
@@ -13,7 +13,7 @@ use Rattle.walk.proofs.advance.Goals as goal
 use Rattle.walk.proofs.advance.Goals.{in-Live, in-Over, in-Spent}
 
 pub fillers-requires : goal.fillers-requires
-fillers-requires c = let q = node_counts c.args.table.reads (prepared_counts c.requires.0.prepares) in (q.0, q.1)
+fillers-requires c = made_fillers c.args.table.reads c.requires.0.prepares
 
 pub level_of-level-requires : goal.level_of-level-requires
 level_of-level-requires c = let p = c.requires in given_level p.0 c.args.table.reads _ p.1.in_range p.2

@@ -1,8 +1,11 @@
 -- `walk::next_node` meets its contract.
 use Rattle.std.proofs.Common.{◌≡◌, ◌+◌, ◌-◌, arith, rules, length}
 use Rattle.bounds.specs.Bounds.{max_variables}
-use Rattle.walk.specs.StepLaws.{climbs_up, next_sibling, next_none}
+use Rattle.walk.specs.StepLaws.{climbs_start, climbs_up, next_sibling, next_none}
 use Rattle.walk.proofs.next_node.Goals as goal
+
+pub loop-k-init : goal.loop-k-init
+loop-k-init c = λ t e. climbs_start t _ _
 
 pub returns-then-sets-k : goal.returns-then-sets-k
 returns-then-sets-k c = λ t e.

@@ -1,6 +1,9 @@
 -- `Fillers::leading_to` meets its contract: a law for each way the rounds end.
-use Rattle.node.specs.MarkLaws.{marking_more, leads_stable, leads_none, leads_full}
+use Rattle.node.specs.MarkLaws.{marking_start, marking_more, leads_stable, leads_none, leads_full}
 use Rattle.node.proofs.Fillers.leading_to.Goals as goal
+
+pub loop-init : goal.loop-init
+loop-init c = marking_start _ _ _ _ _ _ _ c.atoms_into-atoms.ensures
 
 pub loop-preserved : goal.loop-preserved
 loop-preserved c = marking_more _ _ _ _ _ _ _ _ _ c.loop.invariant _ c.having.ensures _ c.if-more-marked.false c.atoms_into-atoms-in-loop.ensures

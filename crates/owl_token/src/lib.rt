@@ -1,7 +1,7 @@
 // The tokens of a text. There is no token list: a token is found from a position, by its bytes alone.
 #![tactic(auto)]
 
-ghost use Rattle.std.specs.Prelude.{◌≡◌, true, false, ◌+◌, ◌*◌, ◌≤◌, ◌<◌, T, ltb, length, get_or, drop, MatchOption};
+ghost use Rattle.std.specs.Prelude.{◌≡◌, true, false, ◌+◌, ◌*◌, ◌≤◌, ◌<◌, min, T, ltb, length, get_or, drop, MatchOption};
 ghost use Rattle.std.specs.List.{prefix_len};
 ghost use Rattle.el.specs.Test.{every_of};
 ghost use Rattle.owl.specs.Naming.{same_bytes};
@@ -35,6 +35,34 @@ pub enum Kind {
     // A word that is not listed, before `(`.
     Unlisted,
     Other,
+}
+
+// The kind with a number; one above 17, which no token has, becomes `Other`.
+impl From<u8> for Kind {
+    ghost from_gives = { λ n r. kind_number r ≡ min n 17 };
+
+    fn from(n: u8) -> Kind {
+        match n {
+            0 => Kind::End,
+            1 => Kind::Open,
+            2 => Kind::Close,
+            3 => Kind::Equals,
+            4 => Kind::Prefix,
+            5 => Kind::Ontology,
+            6 => Kind::Declaration,
+            7 => Kind::Class,
+            8 => Kind::ObjectProperty,
+            9 => Kind::SubClassOf,
+            10 => Kind::EquivalentClasses,
+            11 => Kind::ObjectIntersectionOf,
+            12 => Kind::ObjectSomeValuesFrom,
+            13 => Kind::Short,
+            14 => Kind::Full,
+            15 => Kind::PrefixName,
+            16 => Kind::Unlisted,
+            _ => Kind::Other,
+        }
+    }
 }
 
 // A token: its kind, where it begins and where the text goes on.

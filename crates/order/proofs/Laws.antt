@@ -29,7 +29,7 @@ use Rattle.order.specs.Asked.{missing, each_ask, filler_asked}
 use Rattle.order.proofs.CodeLaws.{fits_fills, filler_more, entry_more, entry_read}
 use Rattle.order.proofs.AskedLaws.{filler_asked_lem, each_asked_lem}
 
-few_atoms : (s : List ℕ) (c e : ℕ) → T (is_readable (reading s)) → c ≡ (header_of s).c → e ≡ (header_of s).e → c + e ≤ max_atoms
+pub few_atoms : (s : List ℕ) (c e : ℕ) → T (is_readable (reading s)) → c ≡ (header_of s).c → e ≡ (header_of s).e → c + e ≤ max_atoms
 few_atoms s c e ok p q = let h : (header_of s).c + (header_of s).e ≤ max_atoms = (layout s ok).few_atoms in omega arith
 
 pub asking : (s : List ℕ) → T (is_readable (reading s)) → (p : Rows) (a : Assignment) (at : ℕ) → LineGiven s p a at → Asking p a

@@ -66,7 +66,7 @@ found_off (suc w) m i h = go (m % 2) refl i h (found_off w (m / 2))
     go zero e (suc i) l rest = bit_next i m ∙ rest i (omega arith)
     go (suc d) e i l rest = absurd (let z : ⊥ = omega arith in z)
 
-lowest_found : (m : ℕ) → m < set_numbers → (m ≡ 0 → ⊥) → Lowest m (count_trailing_zeros set_bits m)
+pub lowest_found : (m : ℕ) → m < set_numbers → (m ≡ 0 → ⊥) → Lowest m (count_trailing_zeros set_bits m)
 lowest_found m h f = let on = found_on set_bits m h f in record { on = on.0; off = found_off set_bits m; small = on.1 }
 
 module _ (m k : ℕ) (low : Lowest m k) where

@@ -1,4 +1,4 @@
--- Fillers from a byte on where the next name does what a number says, one too that is no use: those are told that the definition over numbers says.
+-- The fillers from a byte on, where a number says what the next name does: of one that is no use the definitions say what they say of 5.
 --
 --   finds_any == the first of them
 use Rattle.std.specs.Prelude.{◌≡◌, Bool, true, false, ◌&&◌, List, [], ◌∷◌, ◌++◌, ℕ, ◌+◌, min, eqb, Option, Some, None}

@@ -87,7 +87,7 @@ enum Class {
 
 // What a run is, as far as it goes.
 #[derive(Clone, Copy)]
-enum Shape {
+pub enum Shape {
     Empty,
     // `_` alone.
     Lone,
@@ -100,9 +100,9 @@ enum Shape {
 
 // A run: where it ends, and what it is.
 #[derive(Clone, Copy)]
-struct Run {
-    end: usize,
-    shape: Shape,
+pub struct Run {
+    pub end: usize,
+    pub shape: Shape,
 }
 
 // Letters, digits and bytes from 128, of which texts mostly consist. A bit of the numbers stands for each byte:

@@ -36,11 +36,11 @@ use Rattle.owl_axiom.specs.Fillers.{NextFiller, FindsFiller}
 unfoldable pub Filling : List ℕ → ℕ → ℕ → ℕ → ℕ → Type 0
 Filling s from does at q = (n : ℕ) → Reached s from does n → Reached s at q n × (owned_by does n (rest_tokens s from) ≡ owned_by q n (rest_tokens s at))
 
-filling_start : (s : List ℕ) (from does : ℕ) → Filling s from does from does
+pub filling_start : (s : List ℕ) (from does : ℕ) → Filling s from does from does
 unfolding Filling
 filling_start s from does n r = (r, refl)
 
-filling_end : (s : List ℕ) (from does at q b : ℕ) → Filling s from does at q → kind_at s at ≡ 0 → NextFiller s from does false b
+pub filling_end : (s : List ℕ) (from does at q b : ℕ) → Filling s from does at q → kind_at s at ≡ 0 → NextFiller s from does false b
 unfolding Filling NextFiller owned_by
 filling_end s from does at q b c z n r =
     ((λ y. (c n r).1 ∙ ap (owned_by q n) (rest_end s at z)), (λ y. absurd (subst T (sym y) tt)))
@@ -83,7 +83,7 @@ sort_role q k u v = go (eqb k 13) (eqb k 14) refl refl u
     go false true x y w = ap (sort_after q) (eqb→eq k 14 (subst T (sym y) tt)) ∙ ap (λ (c : Bool). elim c [ true ↦ 3 | false ↦ q ]) v
     go false false x y w = absurd (subst T (sym w) tt)
 
-filling_turn : (s : List ℕ) (from does at q k p e r : ℕ) → Filling s from does at q → at ≤ length s → AtToken s at k p e → (k ≡ 0 → ⊥) → (is_name (kind_at s at) && (eqb q 4 && not (is_name (kind_at s (end_at s at))))) ≡ false → r ≡ sort_after q k → Filling s from does e r
+pub filling_turn : (s : List ℕ) (from does at q k p e r : ℕ) → Filling s from does at q → at ≤ length s → AtToken s at k p e → (k ≡ 0 → ⊥) → (is_name (kind_at s at) && (eqb q 4 && not (is_name (kind_at s (end_at s at))))) ≡ false → r ≡ sort_after q k → Filling s from does e r
 unfolding Filling
 filling_turn s from does at q k p e r c h a z d g n x =
     let w = c n x in
@@ -103,7 +103,7 @@ filling_turn s from does at q k p e r c h a z d g n x =
     idle true false o y = (refl, refl)
     idle false b o y = (refl, refl)
 
-filling_found : (s : List ℕ) (from does at q k p e : ℕ) → Filling s from does at q → at ≤ length s → AtToken s at k p e → (k ≡ 0 → ⊥) → (is_name (kind_at s at) && (eqb q 4 && not (is_name (kind_at s (end_at s at))))) ≡ true → NextFiller s from does true e
+pub filling_found : (s : List ℕ) (from does at q k p e : ℕ) → Filling s from does at q → at ≤ length s → AtToken s at k p e → (k ≡ 0 → ⊥) → (is_name (kind_at s at) && (eqb q 4 && not (is_name (kind_at s (end_at s at))))) ≡ true → NextFiller s from does true e
 unfolding Filling NextFiller
 filling_found s from does at q k p e c h a z d n x =
     let w = c n x in

@@ -40,7 +40,7 @@ use Rattle.owl_axiom.proofs.AxiomLaws.{stands_kind, stands_on, beginning, items_
 unfoldable pub Named : List ℕ → ℕ → ℕ → Type 0
 Named s from at = (h : Head) (items : List Item) → Stands s from (passing 0 0 (written_head h (written_items items (‹right› ∷ [])))) → (l : Head) × Stands s at (passing 0 0 (written_head l (written_items items (‹right› ∷ []))))
 
-named_start : (s : List ℕ) (at : ℕ) → Named s at at
+pub named_start : (s : List ℕ) (at : ℕ) → Named s at at
 unfolding Named
 named_start s at h items c = (h, c)
 
@@ -49,7 +49,7 @@ unfolding is_name
 name_kind (short w) = refl
 name_kind (full w) = refl
 
-name_some : (k : ℕ) → is_name k ≡ true → k ≡ 0 → ⊥
+pub name_some : (k : ℕ) → is_name k ≡ true → k ≡ 0 → ⊥
 unfolding is_name
 name_some k d z = subst T (sym d ∙ ap is_name z) tt
 
@@ -64,7 +64,7 @@ no_name_lem items k e d = subst T (sym d ∙ sym (ap is_name e) ∙ go items) tt
     go (stated (sub_class_of C D) ∷ items) = refl
     go (stated (equivalent_classes C D) ∷ items) = refl
 
-named_turn : (s : List ℕ) (from at k p e : ℕ) → Named s from at → AtToken s at k p e → is_name k ≡ true → Named s from e
+pub named_turn : (s : List ℕ) (from at k p e : ℕ) → Named s from at → AtToken s at k p e → is_name k ≡ true → Named s from e
 unfolding Named sort_after number_after is_name
 named_turn s from at k p e c a d h items b = let w = c h items b in go w.0 w.1
   where
@@ -78,7 +78,7 @@ named_turn s from at k p e c a d h items b = let w = c h items b in go w.0 w.1
     go (two_names (short w) m) x = (one_name m, stands_on s at k p e (passing 0 0 (written_head (two_names (short w) m) (written_items items (‹right› ∷ [])))) x a nonzero)
     go (two_names (full w) m) x = (one_name m, stands_on s at k p e (passing 0 0 (written_head (two_names (full w) m) (written_items items (‹right› ∷ [])))) x a nonzero)
 
-named_end : (s : List ℕ) (from at k p e : ℕ) → Named s from at → AtToken s at k p e → is_name k ≡ false → BehindNames s from at
+pub named_end : (s : List ℕ) (from at k p e : ℕ) → Named s from at → AtToken s at k p e → is_name k ≡ false → BehindNames s from at
 unfolding Named BehindNames
 named_end s from at k p e c a d h items b = let w = c h items b in go w.0 w.1
   where

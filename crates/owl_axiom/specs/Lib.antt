@@ -4,3 +4,4 @@ pub mod Entries
 pub mod EntriesLaws
 pub mod Axioms
 pub mod Fillers
+pub mod AnyNumberLaws

@@ -12,7 +12,7 @@ mod parts;
 
 use owl_line::{Passed, Source};
 use owl_name::Group;
-use parts::Totals;
+pub use parts::Totals;
 
 // A number, where it is no more than a bound.
 fn within(n: usize, most: usize) -> Option<usize>

@@ -31,15 +31,15 @@ use Rattle.owl_class.specs.Ends.{rest_tokens, deeper, skip, JumpsBy, Jumps, Ends
 ----------------------------------------------------------------------------------------------------
 -- Depth
 
-deeper_left : (k depth : ℕ) → k ≡ 1 → depth + 1 ≡ deeper k depth
+pub deeper_left : (k depth : ℕ) → k ≡ 1 → depth + 1 ≡ deeper k depth
 unfolding deeper
 deeper_left k depth e = sym (ap (λ (b : Bool). elim b [ true ↦ depth + 1 | false ↦ elim (eqb k 2) [ true ↦ depth - 1 | false ↦ depth ] ]) (eq-eqb k 1 e))
 
-deeper_other : (k depth : ℕ) → (k ≡ 1 → ⊥) → (k ≡ 2 → ⊥) → depth ≡ deeper k depth
+pub deeper_other : (k depth : ℕ) → (k ≡ 1 → ⊥) → (k ≡ 2 → ⊥) → depth ≡ deeper k depth
 unfolding deeper
 deeper_other k depth h l = sym (ap₂ (λ (a b : Bool). elim a [ true ↦ depth + 1 | false ↦ elim b [ true ↦ depth - 1 | false ↦ depth ] ]) (ne_eqb k 1 h) (ne_eqb k 2 l))
 
-deeper_right : (k depth : ℕ) → (k ≡ 1 → ⊥) → k ≡ 2 → depth - 1 ≡ deeper k depth
+pub deeper_right : (k depth : ℕ) → (k ≡ 1 → ⊥) → k ≡ 2 → depth - 1 ≡ deeper k depth
 unfolding deeper
 deeper_right k depth h e = sym (ap₂ (λ (a b : Bool). elim a [ true ↦ depth + 1 | false ↦ elim b [ true ↦ depth - 1 | false ↦ depth ] ]) (ne_eqb k 1 h) (eq-eqb k 2 e))
 

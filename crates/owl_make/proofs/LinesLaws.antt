@@ -45,7 +45,7 @@ use Rattle.owl_line.specs.Sides.{Few, Done, Grouped}
 use Rattle.owl_line.proofs.LineLaws.{few_first}
 use Rattle.owl_make.specs.Lines.{opens_in, statements_in, axiom_lines, equation_lines, BothDone, AxiomDone, AxiomsDone, FillersDone, LinesDone}
 
-done_none : (b : List ℕ) (x : Passed) → x.lines ≡ 0 → x.end ≡ 0 → Done b (Some x) b []
+pub done_none : (b : List ℕ) (x : Passed) → x.lines ≡ 0 → x.end ≡ 0 → Done b (Some x) b []
 unfolding every_of flat_map
 done_none b x n e = (record { few = omega arith; short = tt }, n, (λ t. subst (λ (r : ℕ). Appended b 0 [] b r) (sym e) (appended_none b 0)))
 

@@ -20,7 +20,7 @@ use Rattle.owl_name.specs.declared.names.Name.{Name}
 use Rattle.owl_name.specs.declared.names.Name.TheVariants.{Short, Full}
 use Rattle.owl_name.specs.contracts.names.NamePartialEq.TheImpl as eq
 use Rattle.owl_name.specs.declared.walks.Does.{Does}
-use Rattle.owl_name.specs.declared.walks.Does.TheVariants.{Nothing, DeclaresClass, DeclaresProperty, UsesClass, UsesProperty}
+use Rattle.owl_name.specs.declared.walks.Does.TheVariants.{Nothing, DeclaresClass, DeclaresProperty, UsesClass, UsesProperty, Other}
 use Rattle.owl_name.specs.declared.walks.Stop.{Stop}
 use Rattle.owl_name.specs.contracts.walks.Does as does
 use Rattle.owl_name.specs.Walk.{written, does_number, named_and, passes, role_of}
@@ -74,6 +74,7 @@ does_tag DeclaresClass = refl
 does_tag DeclaresProperty = refl
 does_tag UsesClass = refl
 does_tag UsesProperty = refl
+does_tag Other = refl
 
 pub does_is : (q r : Does) → sameb does.the_type q r ≡ eqb (does_number q) (does_number r)
 does_is q r = ap₂ eqb (does_tag q) (does_tag r)

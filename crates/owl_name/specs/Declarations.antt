@@ -5,6 +5,7 @@
 --   declared_at s k n       == the byte of the first mention of the text s that does; the length of s if there is none
 --   Groups: 0 constants, 1 open names, 2 roles
 --   group_number g          == the number of a group of the code
+--   group_of n              == the number of the group that n stands for: what is no group's number stands for 0
 --   group_sort g            == what a declaration of a name of the group does
 --   group_takes g n         == such a name is one of the group; owl:Thing is in none
 --   in_group g m            == the mention m declares a name of the group
@@ -29,6 +30,9 @@ abbrev pub group_number : Group → ℕ
 group_number Constants = 0
 group_number Opens = 1
 group_number Roles = 2
+
+unfoldable pub group_of : ℕ → ℕ
+group_of n = elim (eqb n 2) [ true ↦ 2 | false ↦ elim (eqb n 1) [ true ↦ 1 | false ↦ 0 ] ]
 
 -- each token has a byte, so there are no more tokens than bytes
 unfoldable pub rest_of : List ℕ → ℕ → ℕ → List Placed

@@ -1,3 +1,4 @@
 pub mod Ordered
 pub mod Walk
 pub mod Declarations
+pub mod AnyNumberLaws

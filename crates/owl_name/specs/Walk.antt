@@ -1,7 +1,7 @@
 -- A walk over the tokens of a text, as the code goes it.
 --
 --   written n     == the name that is written so
---   does_number q == what a name does, as a number
+--   does_number q == what a name does, as a number; 5 stands for every number above 4
 --   named_and p o == o is a name that passes p
 --   passes p x    == the token at a stop is a name, and the mention of it passes p
 --   role_of x     == the name at a stop, if it uses an object property
@@ -18,7 +18,7 @@ use Rattle.owl_token.specs.Kind.{kind_number}
 use Rattle.owl_name.specs.declared.names.Name.{Name}
 use Rattle.owl_name.specs.declared.names.Name.TheVariants.{Short, Full}
 use Rattle.owl_name.specs.declared.walks.Does.{Does}
-use Rattle.owl_name.specs.declared.walks.Does.TheVariants.{Nothing, DeclaresClass, DeclaresProperty, UsesClass, UsesProperty}
+use Rattle.owl_name.specs.declared.walks.Does.TheVariants.{Nothing, DeclaresClass, DeclaresProperty, UsesClass, UsesProperty, Other}
 use Rattle.owl_name.specs.declared.walks.Stop.{Stop}
 use Rattle.owl_name.specs.declared.walks.Walk.{Walk}
 
@@ -32,6 +32,7 @@ does_number DeclaresClass = 1
 does_number DeclaresProperty = 2
 does_number UsesClass = 3
 does_number UsesProperty = 4
+does_number Other = 5
 
 -- the mention at a stop, if it is a name, passes p
 abbrev pub named_and : (tree.Name → Bool) → Option Name → Bool

@@ -8,7 +8,7 @@ ghost use Rattle.std.specs.Prelude.{◌≡◌, true, false, ◌&&◌, not, ◌<�
 ghost use Rattle.owl.specs.Naming.{is_thing, role_number};
 ghost use Rattle.owl.specs.Mention.{mentioned, names_in, is_known, undeclared};
 ghost use Rattle.owl_name.specs.Walk.{written, does_number, passes};
-ghost use Rattle.owl_name.specs.Declarations.{declares, declared_at, group_number, group_sort, group_takes, in_group, first_in, different, Reaches, UpTo, class_number, group_names};
+ghost use Rattle.owl_name.specs.Declarations.{declares, declared_at, group_number, group_of, group_sort, group_takes, in_group, first_in, different, Reaches, UpTo, class_number, group_names};
 
 mod names;
 mod walks;
@@ -49,7 +49,7 @@ fn is_known(s: &[u8], does: Does, name: Name) -> bool
     match does {
         Does::UsesClass => name.is_thing() || declared_at(s, Does::DeclaresClass, name) < s.len(),
         Does::UsesProperty => declared_at(s, Does::DeclaresProperty, name) < s.len(),
-        Does::Nothing | Does::DeclaresClass | Does::DeclaresProperty => true,
+        Does::Nothing | Does::DeclaresClass | Does::DeclaresProperty | Does::Other => true,
     }
 }
 
@@ -82,6 +82,20 @@ pub enum Group {
     Constants,
     Opens,
     Roles,
+}
+
+// The group with a number; one above 2, which no group has, becomes the constants, as in the definitions.
+impl From<u8> for Group {
+    ghost from_gives = { λ n r. group_number r ≡ group_of n };
+
+    #[tactic(auto, unfolding(crate::specs::Declarations::group_of))]
+    fn from(n: u8) -> Group {
+        match n {
+            1 => Group::Opens,
+            2 => Group::Roles,
+            _ => Group::Constants,
+        }
+    }
 }
 
 impl Group {

@@ -1,6 +1,7 @@
 // Names as they are written.
 ghost use Rattle.std.specs.Prelude.{◌≡◌, ◌≤◌, length};
 ghost use Rattle.owl.specs.Naming.{is_thing, is_open};
+ghost use Rattle.owl.specs.Mention.{name_by};
 ghost use Rattle.owl_token.specs.Kind.{kind_number};
 ghost use Rattle.owl_name.specs.Walk.{written, IsNamedBy, IsNamed};
 
@@ -24,6 +25,17 @@ impl<'a> Name<'a> {
             Kind::Short => Some(Name::Short(bytes)),
             Kind::Full => Some(Name::Full(bytes)),
             _ => None,
+        }
+    }
+
+    // The name with these bytes, by the number of its kind: a short one for 13, for any other a full one.
+    #[tactic(auto, unfolding(owl::specs::Mention::name_by))]
+    pub fn by(kind: u8, bytes: &'a [u8]) -> Name<'a>
+        ensures { written result ≡ name_by kind bytes.now }
+    {
+        match kind {
+            13 => Name::Short(bytes),
+            _ => Name::Full(bytes),
         }
     }
 

@@ -13,6 +13,27 @@ pub enum Does {
     DeclaresProperty,
     UsesClass,
     UsesProperty,
+    // What no name of a text does.
+    Other,
+}
+
+// What a name does, by its number; one above 4, which no name of a text has, becomes `Other`.
+impl From<u8> for Does {
+    ghost use Rattle.std.specs.Prelude.{min};
+    ghost use Rattle.owl_name.specs.Walk.{does_number};
+
+    ghost from_gives = { λ n r. does_number r ≡ min n 5 };
+
+    fn from(n: u8) -> Does {
+        match n {
+            0 => Does::Nothing,
+            1 => Does::DeclaresClass,
+            2 => Does::DeclaresProperty,
+            3 => Does::UsesClass,
+            4 => Does::UsesProperty,
+            _ => Does::Other,
+        }
+    }
 }
 
 impl Does {

@@ -85,12 +85,12 @@ pub fn row_number(s: &[u8], at: usize) -> usize
     ensures { IsNumber s.now at result }
 {
     let token = owl_token::token_at(s, at);
-    let first = match (
-        Name::of(token.kind, &s[token.place..token.end]),
-        owl_name::name_at(s, token.end),
-    ) {
-        (Some(role), Some(filler)) => first_row(s, role, filler),
-        _ => token.place,
+    let first = match owl_name::name_at(s, token.end) {
+        None => token.place,
+        Some(filler) => match Name::of(token.kind, &s[token.place..token.end]) {
+            Some(role) => first_row(s, role, filler),
+            None => s.len(), // no restriction has it for a role
+        },
     };
     different(s, first)
 }

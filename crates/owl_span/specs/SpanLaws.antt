@@ -2,6 +2,7 @@
 --
 --   span_said == a name is the text at its place
 --   spans_of  == where there is room for all of them, they are the names of the group
+--   spans_any == what is no group's number stands for the same group as in the definitions
 use Rattle.std.specs.Prelude.{◌≡◌, List, ℕ, ◌-◌, ◌≤◌, ◌<◌, length, take, drop}
 use Rattle.std.proofs.Common.{sym, subst, ◌∙◌, arith, get_or-take, length-take-le, lt-ltb}
 use Rattle.owl.specs.Tree.{Name}
@@ -9,7 +10,8 @@ use Rattle.owl.specs.Mention.{names_in}
 use Rattle.spell.specs.declared.Span.{Span}
 use Rattle.spell.specs.Spelling.{name_of}
 use Rattle.spell.specs.Given.{span_at, span_text, SpansOf}
-use Rattle.owl_name.specs.Declarations.{group_names}
+use Rattle.owl_name.specs.Declarations.{group_of, group_names}
+use Rattle.owl_name.specs.AnyNumberLaws.{group_names_any}
 use Rattle.owl_span.specs.Span.{SpanAt, SpansDone}
 
 pub span_said : (s : List ℕ) (l : List Name) (spans : List Span) (k : ℕ) → k < length spans → SpanAt s l spans k → span_text s spans k ≡ name_of l k
@@ -35,3 +37,7 @@ spans_of s g spans r d room = record {
 
     at : (k : ℕ) → k < r → SpanAt s (group_names (names_in s) g) (take r spans) k
     at k h = span_moved s (group_names (names_in s) g) spans (take r spans) k (get_or-take r spans k _ h) (d.1 k h (omega arith))
+
+pub spans_any : (s : List ℕ) (g : ℕ) (spans : List Span) (r : ℕ) → SpansDone s (group_of g) spans r → SpansDone s g spans r
+unfolding SpansDone
+spans_any s g spans r d = subst (λ (l : List Name). (r ≡ length l) × ((k : ℕ) → k < r → k < length spans → SpanAt s l spans k)) (group_names_any (names_in s) g) d

@@ -32,10 +32,10 @@ pub struct Refusal {
 
 // Where a reading ends: the byte from which its last token is sought, the verdict there, and the greatest depth before.
 #[derive(Clone, Copy)]
-struct End {
-    at: usize,
-    verdict: Result<(), Refusal>,
-    most: usize,
+pub struct End {
+    pub at: usize,
+    pub verdict: Result<(), Refusal>,
+    pub most: usize,
 }
 
 // How many levels a block has.

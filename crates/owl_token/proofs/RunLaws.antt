@@ -73,7 +73,7 @@ unfolding byte_class is_plain all_below
 full_byte b h = tests_agree 0 255 (λ k. eqb k 60) (λ k. eqb (byte_class k) 11) tt b (omega arith) (omega arith) h
 
 -- a second plain byte does not change the shape
-shape_keeps : (m n : ℕ) → m < 6 → n ≡ get_or shapes (m * 5 + 0) 5 → n ≡ get_or shapes (n * 5 + 0) 5
+pub shape_keeps : (m n : ℕ) → m < 6 → n ≡ get_or shapes (m * 5 + 0) 5 → n ≡ get_or shapes (n * 5 + 0) 5
 unfolding shapes all_below
 shape_keeps m n h e =
     let after : ℕ → ℕ = λ k. get_or shapes (k * 5 + 0) 5 in

@@ -1,7 +1,7 @@
 // The tokens of a text. There is no token list: a token is found from a position, by its bytes alone.
 #![tactic(auto)]
 
-ghost use Rattle.std.specs.Prelude.{◌≡◌, true, false, ◌+◌, ◌*◌, ◌≤◌, ◌<◌, T, ltb, length, get_or, drop, MatchOption};
+ghost use Rattle.std.specs.Prelude.{◌≡◌, true, false, ◌+◌, ◌*◌, ◌≤◌, ◌<◌, min, T, ltb, length, get_or, drop, MatchOption};
 ghost use Rattle.std.specs.List.{prefix_len};
 ghost use Rattle.el.specs.Test.{every_of};
 ghost use Rattle.owl.specs.Naming.{same_bytes};
@@ -37,6 +37,34 @@ pub enum Kind {
     Other,
 }
 
+// The kind with a number; one above 17, which no token has, becomes `Other`.
+impl From<u8> for Kind {
+    ghost from_gives = { λ n r. kind_number r ≡ min n 17 };
+
+    fn from(n: u8) -> Kind {
+        match n {
+            0 => Kind::End,
+            1 => Kind::Open,
+            2 => Kind::Close,
+            3 => Kind::Equals,
+            4 => Kind::Prefix,
+            5 => Kind::Ontology,
+            6 => Kind::Declaration,
+            7 => Kind::Class,
+            8 => Kind::ObjectProperty,
+            9 => Kind::SubClassOf,
+            10 => Kind::EquivalentClasses,
+            11 => Kind::ObjectIntersectionOf,
+            12 => Kind::ObjectSomeValuesFrom,
+            13 => Kind::Short,
+            14 => Kind::Full,
+            15 => Kind::PrefixName,
+            16 => Kind::Unlisted,
+            _ => Kind::Other,
+        }
+    }
+}
+
 // A token: its kind, where it begins and where the text goes on.
 #[derive(Clone, Copy)]
 pub struct Token {
@@ -59,7 +87,7 @@ enum Class {
 
 // What a run is, as far as it goes.
 #[derive(Clone, Copy)]
-enum Shape {
+pub enum Shape {
     Empty,
     // `_` alone.
     Lone,
@@ -72,9 +100,9 @@ enum Shape {
 
 // A run: where it ends, and what it is.
 #[derive(Clone, Copy)]
-struct Run {
-    end: usize,
-    shape: Shape,
+pub struct Run {
+    pub end: usize,
+    pub shape: Shape,
 }
 
 // Letters, digits and bytes from 128, of which texts mostly consist. A bit of the numbers stands for each byte:

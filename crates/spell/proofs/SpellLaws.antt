@@ -71,11 +71,11 @@ module _ (s : List ℕ) (ok : T (is_readable (reading s))) where
 -- Restrictions
 
 -- `owl:Thing`, as the code writes it
-abbrev thing : List ℕ
+abbrev pub thing : List ℕ
 thing = 111 ∷ 119 ∷ 108 ∷ 58 ∷ 84 ∷ 104 ∷ 105 ∷ 110 ∷ 103 ∷ []
 
 -- `ObjectSomeValuesFrom(`
-abbrev some_open : List ℕ
+abbrev pub some_open : List ℕ
 some_open = 79 ∷ 98 ∷ 106 ∷ 101 ∷ 99 ∷ 116 ∷ 83 ∷ 111 ∷ 109 ∷ 101 ∷ 86 ∷ 97 ∷ 108 ∷ 117 ∷ 101 ∷ 115 ∷ 70 ∷ 114 ∷ 111 ∷ 109 ∷ 40 ∷ []
 
 module _ (d : Names) (t : Table) (spelt : ℕ → List ℕ) where

@@ -312,7 +312,8 @@ impl Body<'_> {
             return Err(Answer::EndsEarly(self.table.len()));
         };
         let p = usize::from(count);
-        if MAX_LEFT < p {
+        let over = MAX_LEFT < p;
+        if over {
             return Err(Answer::OverBound(at));
         }
         let next = read_many(|entry| self.read_entry(entry), p, at + 1)?;

@@ -81,7 +81,8 @@ impl Writer<'_> {
     fn put_decimal(&mut self, n: usize)
         ensures { Wrote self.old (decimal n) self.new }
     {
-        if 10 <= n {
+        let longer = 10 <= n;
+        if longer {
             self.put_decimal(n / 10);
         }
         self.put_byte(digit_of((n % 10) as u8));

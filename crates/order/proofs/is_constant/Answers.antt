@@ -1,5 +1,5 @@
 -- `order::is_constant` is the test `is_constant`, by the kind of the code.
-use Rattle.std.proofs.Common.{◌≡◌, refl, sym, ◌∙◌, ℕ}
+use Rattle.std.proofs.Common.{◌≡◌, refl, sym, ap, ◌∙◌, arith, ℕ}
 use Rattle.table.specs.declared.Kind.{Kind}
 use Rattle.table.specs.declared.Kind.TheVariants.{Top, Constant, Restriction, Variable, Other}
 use Rattle.table.specs.contracts.KindPartialEq.TheImpl as eq
@@ -16,4 +16,8 @@ eq_is (Variable i) k = refl
 eq_is Other k = refl
 
 pub returns : goal.returns
-returns c = c.eq.ensures ∙ eq_is c.kind_of.result c.args.k ∙ constant_kind _ _ _ (sym c.kind_of.ensures)
+returns c =
+    c.eq.ensures
+    ∙ ap (λ (k : ℕ). eq.eq-value.it c.kind_of.result (Constant k)) (omega arith)
+    ∙ eq_is c.kind_of.result c.args.k
+    ∙ constant_kind _ _ _ (sym c.kind_of.ensures)

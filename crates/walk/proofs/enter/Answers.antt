@@ -1,5 +1,5 @@
 -- `walk::enter` meets its contract: one law for each of its two ends.
-use Rattle.std.proofs.Common.{◌≡◌, refl, arith, rules, length}
+use Rattle.std.proofs.Common.{◌≡◌, ℕ, refl, ap, arith, rules, length, set}
 use Rattle.bounds.specs.Bounds.{max_variables}
 use Rattle.walk.specs.StepLaws.{looks_solved, looks_down}
 use Rattle.walk.proofs.enter.Goals as goal
@@ -10,4 +10,4 @@ returns-then-sets-v c = λ t hv live. (let p = c.requires in let n : length c.ar
 
 pub returns : goal.returns
 returns c = λ t hv live. (let p = c.requires in let n : length c.args.sets.now.set ≡ max_variables = search rules in
-    looks_down t c.args.sets.now (omega arith) live _ (omega arith) (omega arith) refl refl)
+    looks_down t c.args.sets.now (omega arith) live _ (omega arith) (omega arith) (ap (λ (n : ℕ). set c.args.sets.now.set c.args.sets.now.chosen n) (omega arith)) refl)

@@ -1,5 +1,5 @@
 -- `walk::run` meets its contract: a state that has ended stays, and any other is moved on.
-use Rattle.std.proofs.Common.{refl, arith, rules}
+use Rattle.std.proofs.Common.{arith, rules}
 use Rattle.node.specs.DeadLaws.{prepared_counts, node_counts}
 use Rattle.walk.specs.GivenLaws.{given_table}
 use Rattle.walk.specs.RunLaws.{running_on, running_spent, running_done, runs_stays, runs_going}
@@ -28,7 +28,7 @@ pub loop-prepared-preserved : goal.loop-prepared-preserved
 loop-prepared-preserved c = running_on c.loop-prepared.invariant (search rules) c.advance.ensures
 
 pub returns-else-state-end : goal.returns-else-state-end
-returns-else-state-end c = runs_going _ c.args.state _ _ (search rules) (running_spent c.loop-prepared.invariant _ refl c.if-state-end.false)
+returns-else-state-end c = runs_going _ c.args.state _ _ (search rules) (running_spent c.loop-prepared.invariant c.args.share (omega arith) c.if-state-end.false)
 
 pub returns-after-loop-prepared : goal.returns-after-loop-prepared
-returns-after-loop-prepared c = runs_going _ c.args.state _ _ (search rules) (running_done c.loop-prepared.invariant _ refl (λ o. absurd (search rules)))
+returns-after-loop-prepared c = runs_going _ c.args.state _ _ (search rules) (running_done c.loop-prepared.invariant c.args.share (omega arith) (λ o. absurd (search rules)))

@@ -10,8 +10,8 @@ use Rattle.table.proofs.Body.read_line.Goals as goal
 pub returns-in_default : goal.returns-in_default
 returns-in_default c = stops (line_short _ _ _ _ (grind (arith, common_steps)))
 
-pub returns-then-p-gt-MAX_LEFT : goal.returns-then-p-gt-MAX_LEFT
-returns-then-p-gt-MAX_LEFT c =
+pub returns-then-over : goal.returns-then-over
+returns-then-over c =
     let here : byte_at c.args.self.now.table.now c.args.at ≡ c.in-Some.field-0.now = grind (arith, common_steps) in
     stops (line_over _ _ _ _ (grind (arith, common_steps)) (omega arith))
 

@@ -31,6 +31,7 @@ fn both_ways(
 }
 
 // The lines of an axiom.
+#[tactic(auto, using(crate::proofs::LinesLaws::axiom_one, crate::proofs::LinesLaws::axiom_both, crate::proofs::LinesLaws::both_over, crate::proofs::LinesLaws::both_put))]
 fn one_axiom(source: Source<'_>, found: Axiom, passed: Passed, out: &mut [u8]) -> Option<Passed>
     requires left { found.left ≤ length source.text.now }
     requires right { found.right ≤ length source.text.now }

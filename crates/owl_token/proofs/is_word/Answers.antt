@@ -5,18 +5,24 @@ use Rattle.el.specs.TestLaws.{is_true, every_of_at}
 use Rattle.owl.specs.Token.{byte_class}
 use Rattle.owl_token.proofs.RunLaws as laws
 use Rattle.owl_token.proofs.is_word.Goals as goal
-use Rattle.owl_token.proofs.is_word.Goals.{then-i-s-via-then-i-s, then-i-s-via-else-i-s+then-s-i}
 
 pub returns-then-i-s : goal.returns-then-i-s
 returns-then-i-s c =
     let s = c.args.s.now in
     let w = c.args.w.now in
     let i = c.loop-i.i in
+    let h : length s ≤ i = omega arith in
     let l : i < length w = omega arith in
-    sym (c.loop-i.invariant.2 ∙ elim c.then-i-s.branch [
-      | then-i-s-via-then-i-s b ↦ laws.word_short s w i (let h : length s ≤ i = omega arith in h) l
-      | then-i-s-via-else-i-s+then-s-i b ↦ laws.word_off s w i (let h : i < length s = omega arith in h) l b.if-s-i.true
-    ])
+    sym (c.loop-i.invariant.2 ∙ laws.word_short s w i h l)
+
+pub returns-then-s-i : goal.returns-then-s-i
+returns-then-s-i c =
+    let s = c.args.s.now in
+    let w = c.args.w.now in
+    let i = c.loop-i.i in
+    let h : i < length s = omega arith in
+    let l : i < length w = omega arith in
+    sym (c.loop-i.invariant.2 ∙ laws.word_off s w i h l c.if-s-i.true)
 
 pub loop-i-preserved : goal.loop-i-preserved
 loop-i-preserved c =

@@ -219,10 +219,10 @@ fn is_word(s: &[u8], w: &[u8]) -> bool
     requires { T (every_of (λ b. ltb (byte_class b) 5) w.now) }
     ensures { result ≡ same_bytes (run_of s.now) w.now }
 {
+    if s.len() < w.len() {
+        return false;
+    }
     for i in 0..w.len() {
-        if i >= s.len() {
-            return false;
-        }
         if s[i] != w[i] {
             return false;
         }

@@ -4,6 +4,7 @@
 ghost use Rattle.std.specs.Prelude.{◌≡◌, ◌≤◌, length};
 ghost use Rattle.owl.specs.Mention.{names_in};
 ghost use Rattle.owl_name.specs.Declarations.{group_number, group_names};
+ghost use Rattle.text.specs.Append.{Appended};
 ghost use Rattle.owl_make.specs.Lines.{opens_in};
 ghost use Rattle.owl_answer.specs.Owl.{owl, OwlAt};
 ghost use Rattle.owl_call.specs.Call.{Within, Counted, CountsAre, LinesIn, PutTable, refusal_number, refusal_place, answer_of, TableMade};
@@ -108,6 +109,17 @@ pub struct Answered {
 // The bytes that lines have at most.
 const LINES_ROOM: usize = (bounds::MAX_LEFT + 2) * bounds::MAX_LINES;
 
+// Lines behind the rows, byte by byte: a copy whose length is not known would need `memcpy` from outside the library for C.
+fn put_lines(lines: &[u8], out: &mut [u8], from: usize) -> usize
+    ensures { Appended out.old from lines.now out.new result }
+{
+    let mut end = from;
+    for b in lines {
+        end = text::put_byte(*b, out, end);
+    }
+    end
+}
+
 // A whole table: header (the mark, the version, the counts), rows and lines.
 fn put_table(source: Source<'_>, t: Totals, passed: Passed, lines: &[u8], out: &mut [u8]) -> usize
     ensures table { PutTable source.entry.text.now source.entry.opens t passed.lines lines.now out.old out.new result }
@@ -127,7 +139,7 @@ fn put_table(source: Source<'_>, t: Totals, passed: Passed, lines: &[u8], out: &
     ];
     let rows = text::put_text(&header, out, 0);
     let from = owl_table::put_rows(source, out, rows);
-    text::put_text(lines, out, from)
+    put_lines(lines, out, from)
 }
 
 // The table of a text that says a file and whose counts are within their bounds, where its lines were passed.

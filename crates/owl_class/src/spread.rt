@@ -117,6 +117,7 @@ impl Iterator for Conjuncts<'_> {
 
     ghost remaining = { λ c. at_most (length c.walk.text.now - c.walk.at) };
 
+    #[inline(always)]
     fn next(&mut self) -> Option<Conjunct> {
         while let Some(inside) = self.inside {
             let Some(stop) = self.walk.next() else {

@@ -7,11 +7,12 @@
 
 ghost use Rattle.std.specs.Prelude.{◌≡◌, [], ◌≤◌, length};
 ghost use Rattle.owl.specs.Once.{once};
+ghost use Rattle.owl.specs.Naming.{same_name};
 ghost use Rattle.owl.specs.Restriction.{by_name, restricted, standing, restrictions_of, owns_of, same_restriction};
-ghost use Rattle.owl_name.specs.Walk.{written, passes};
+ghost use Rattle.owl_name.specs.Walk.{written, named_and, passes};
 ghost use Rattle.owl_row.specs.Rows.{first_row, different_rows, alike_in, row_in, own_in, fresh_before, filler_kind, filler_number, IsNumber, IsFiller};
 
-use owl_name::{Name, Stop, Walk};
+use owl_name::{Does, Name, Stop, Walk};
 
 // A filler of a row, each but top with its number among its kind.
 #[derive(Clone, Copy, PartialEq, Eq)]
@@ -22,12 +23,26 @@ pub enum Filler {
     Fresh(usize),
 }
 
-// Whether a token is the role of a restriction with this role and this name for a filler.
-fn alike(s: &[u8], stop: &Stop, role: Name, filler: Name) -> bool
-    requires { stop.now.end ≤ length s.now }
-    ensures { result ≡ passes (alike_in s.now (written role.entry) (written filler.entry) stop.now.end) stop.now }
+// Whether what may be a name is this one. Two names are compared and not two options: `first_row` does little else, and so takes half the
+// instructions.
+fn is(found: Option<Name>, name: &Name) -> bool
+    ensures { result ≡ named_and (same_name (written name.now)) found.entry }
 {
-    stop.role() == Some(role) && owl_name::name_at(s, stop.end) == Some(filler)
+    match found {
+        Some(found) => found == *name,
+        None => false,
+    }
+}
+
+// Whether a token is the role of a restriction with this role and this name for a filler.
+fn alike(s: &[u8], stop: &Stop, role: &Name, filler: &Name) -> bool
+    requires { stop.now.end ≤ length s.now }
+    ensures { result ≡ passes (alike_in s.now (written role.now) (written filler.now) stop.now.end) stop.now }
+{
+    match stop.does {
+        Does::UsesProperty => is(stop.name, role) && is(owl_name::name_at(s, stop.end), filler),
+        _ => false,
+    }
 }
 
 // The byte of the first restriction with this role and this name for a filler; the text's length if there is none, as the definition says. The
@@ -36,7 +51,7 @@ pub fn first_row(s: &[u8], role: Name, filler: Name) -> usize
     ensures { result ≡ first_row s.now (restricted (written role.entry) (by_name (written filler.entry))) }
 {
     for stop in Walk::new(s) {
-        if alike(s, &stop, role, filler) {
+        if alike(s, &stop, &role, &filler) {
             return stop.place;
         }
     }

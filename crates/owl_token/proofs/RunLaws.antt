@@ -6,7 +6,7 @@
 --   Running                                      == the loop over a run: its end, and its shape so far
 --   running_start, running_stop, running_on, running_plain, running_end == its turns
 --   close_stop, close_on, close_end              == the loop up to `>`
---   word_on, word_off, word_short, word_end, word_stop == the loop over a run and a word
+--   word_long, word_on, word_off, word_short, word_end, word_stop == the loop over a run and a word
 use Rattle.std.proofs.Common.{◌≡◌, refl, sym, ap, ap₂, subst, ◌∙◌, Bool, true, false, ◌&&◌, ◌||◌, not, List, [], ◌∷◌, ℕ, zero, suc, ◌+◌, ◌-◌, ◌*◌, ◌≤◌, ◌<◌, arith, T, eqb, eqb→eq, leb, le→leb, ltb, length, get_or, take, drop, length-drop, get_or-drop, drop_of_length-le}
 use lib.Seq.{take_all}
 use Rattle.std.proofs.lemmas.List.Sums.{prefix_len-le-length, prefix_len_passes}
@@ -225,6 +225,25 @@ word_on s w i h l e c =
     ap₂ (λ (a : List ℕ) (k : List ℕ). same_bytes (run_of a) k) (drop_cons s i h) (drop_cons w i l)
     ∙ ap (λ (n : ℕ). same_bytes (take n (b ∷ rest)) (get_or w i 0 ∷ drop (i + 1) w)) (run_more b rest (ap (λ (k : ℕ). ltb (byte_class k) 5) e ∙ c))
     ∙ ap (λ (t : Bool). t && same_bytes (run_of rest) (drop (i + 1) w)) (eq-eqb b (get_or w i 0) e)
+
+-- a word that is longer than what is left
+shorter : (n : ℕ) (l : List ℕ) → length (take n l) ≤ length l
+shorter zero l = omega arith
+shorter (suc n) [] = omega arith
+shorter (suc n) (x ∷ l) = let z : length (take n l) ≤ length l = shorter n l in omega arith
+
+unlike : (a w : List ℕ) → length a < length w → same_bytes a w ≡ false
+unfolding same_bytes
+unlike a [] h = absurd (let z : ⊥ = omega arith in z)
+unlike [] (y ∷ w) h = refl
+unlike (x ∷ a) (y ∷ w) h = ap (λ (t : Bool). eqb x y && t) (unlike a w (omega arith)) ∙ off (eqb x y)
+  where
+    off : (t : Bool) → (t && false) ≡ false
+    off true = refl
+    off false = refl
+
+pub word_long : (s w : List ℕ) → length s < length w → same_bytes (run_of s) w ≡ false
+word_long s w h = unlike (run_of s) w (let z : length (run_of s) ≤ length s = shorter (run_length s) s in omega arith)
 
 pub word_off : (s w : List ℕ) (i : ℕ) → i < length s → i < length w → (get_or s i 0 ≡ get_or w i 0 → ⊥) → same_bytes (run_of (drop i s)) (drop i w) ≡ false
 unfolding same_bytes run_length

@@ -155,11 +155,15 @@ fn ends_line(b: u8) -> bool
 }
 
 // What a byte does between tokens (c is 0) or in a comment (1): 0 or 1 again, or 2, a token begins. Numbers, as with
-// an `Option<bool>` in their place the check of a text takes 2 in a hundred more instructions.
+// an `Option<bool>` in their place the check of a text takes 2 in a hundred more instructions. Most bytes that begin a
+// token are above all that do anything else, so that is asked first.
 fn between(c: u8, b: u8) -> u8
     requires { c < 2 }
     ensures { (result ≡ between c b) × (result < 3) }
 {
+    if b'#' < b {
+        return if c == 1 { 1 } else { 2 };
+    }
     if ends_line(b) {
         return 0;
     }
@@ -243,8 +247,11 @@ fn is_word(s: &[u8], w: &[u8]) -> bool
     requires { T (every_of (λ b. ltb (byte_class b) 5) w.now) }
     ensures { result ≡ same_bytes (run_of s.now) w.now }
 {
+    if s.len() < w.len() {
+        return false;
+    }
     for i in 0..w.len() {
-        if i >= s.len() || s[i] != w[i] {
+        if s[i] != w[i] {
             return false;
         }
     }
@@ -256,6 +263,9 @@ fn is_word(s: &[u8], w: &[u8]) -> bool
 fn listed(s: &[u8]) -> Option<(Kind, usize)>
     ensures { MatchOption result (keyword_kind (run_of s.now) ≡ 0) (λ word. IsListed (run_of s.now) (kind_number word.0) word.1) }
 {
+    if s.is_empty() || s[0] < b'C' {
+        return None; // each begins with a capital from C on
+    }
     if is_word(s, b"Prefix") {
         return Some((Kind::Prefix, 6));
     }

@@ -1,10 +1,40 @@
 -- Each listed word is asked for in turn.
-use mathlib.Core.Path.{sym, ◌∙◌}
+use mathlib.Core.Path.{◌≡◌, sym, ◌∙◌}
+use mathlib.Core.Bool.{false}
+use mathlib.Core.List.{List, [], ◌∷◌}
+use Prim.Native.Nat.{ℕ, ◌≤◌, ◌<◌}
+use lib.ListN.{length, get_or}
+use Rattle.std.proofs.Common.{T, subst, eqb→eq}
 use native.Mathlib.Omega.{arith}
 use Rattle.el.specs.Test.{every_of}
+use Rattle.owl.specs.Naming.{same_bytes}
 use Rattle.owl.specs.Token.{is_plain, byte_class, keywords, prefix_word, ontology_word, declaration_word, class_word, property_word, sub_class_word, equivalent_word, intersection_word, some_values_word}
+use Rattle.owl_token.specs.Keyword.{run_of, keyword_kind}
 use Rattle.owl_token.proofs.KeywordLaws as words
+use Rattle.owl_token.proofs.RunLaws as runs
 use Rattle.owl_token.proofs.listed.Goals as goal
+use Rattle.owl_token.proofs.listed.Goals.{then-is_empty-via-then-is_empty, then-is_empty-via-else-is_empty+then-s-lt67}
+
+-- a byte below all capitals that begin one
+low : (s : List ℕ) → get_or s 0 0 < 67 → (w : List ℕ) → 0 < length w → 67 ≤ get_or w 0 0 → same_bytes (run_of s) w ≡ false
+low [] h w l k = runs.word_short [] w 0 (omega arith) l
+low (b ∷ s) h w l k = runs.word_off (b ∷ s) w 0 (omega arith) l (λ e. omega arith)
+
+none_in : (s : List ℕ) → length s ≡ 0 → get_or s 0 0 < 67
+none_in [] e = omega arith
+none_in (b ∷ s) e = omega arith
+
+none_low : (s : List ℕ) → get_or s 0 0 < 67 → keyword_kind (run_of s) ≡ 0
+unfolding keywords prefix_word ontology_word declaration_word class_word property_word sub_class_word equivalent_word intersection_word some_values_word
+none_low s h =
+    let f : (w : List ℕ) → 0 < length w → 67 ≤ get_or w 0 0 → same_bytes (run_of s) w ≡ false = low s h in
+    words.unlisted _ (f _ (omega arith) (omega arith), (f _ (omega arith) (omega arith), (f _ (omega arith) (omega arith), (f _ (omega arith) (omega arith), (f _ (omega arith) (omega arith), (f _ (omega arith) (omega arith), (f _ (omega arith) (omega arith), (f _ (omega arith) (omega arith), (f _ (omega arith) (omega arith), tt)))))))))
+
+pub returns-then-is_empty : goal.returns-then-is_empty
+returns-then-is_empty c = elim c.then-is_empty.branch [
+  | then-is_empty-via-then-is_empty w ↦ none_low c.args.s.now (let e : length c.args.s.now ≡ 0 = eqb→eq (length c.args.s.now) 0 (subst T w.if-is_empty.ensures tt) in none_in c.args.s.now e)
+  | then-is_empty-via-else-is_empty+then-s-lt67 w ↦ none_low c.args.s.now w.if-s-lt67.true
+]
 
 pub is_word-requires : goal.is_word-requires
 unfolding every_of byte_class is_plain

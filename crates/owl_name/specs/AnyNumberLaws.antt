@@ -4,6 +4,7 @@
 --   cut, cut_test       == a number below a bound stands for itself; a test for such a number asks the same
 --   kind_any, name_any  == whether a token is a name, and which
 --   after_any           == what the next name does
+--   sort_few            == it is at most 4 where it was before: a walk that begins at most there comes to no use above
 --   declared_none       == a use above 4 declares no name
 --   declared_any        == where a name is declared first
 --   in_group_any, different_any, up_to_any, group_names_any == the names of a group, and how many there are
@@ -69,7 +70,7 @@ word_few k =
     ]
 
 -- what a name of a text does is at most 4
-sort_few : (q k : ℕ) → q ≤ 4 → sort_after q k ≤ 4
+pub sort_few : (q k : ℕ) → q ≤ 4 → sort_after q k ≤ 4
 unfolding sort_after
 sort_few q k h = go (ltb 3 k && ltb k 13) (is_name k && eqb q 4)
   where
